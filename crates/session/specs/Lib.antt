@@ -1,0 +1,3 @@
+pub mod Words
+pub mod InterfaceText
+pub mod ScriptText
