@@ -7,12 +7,19 @@
 //! objects of the system stand in a crate above, and so do links, clocks and gates.
 #![tactic(auto)]
 
+mod failing_calls;
 mod fault;
 mod files;
+mod mem_files;
+mod mem_sink;
+mod named_file;
 mod sink;
 mod status;
 
 pub use fault::{Failed, Memory, ReadFault};
 pub use files::Files;
+pub use mem_files::MemFiles;
+pub use mem_sink::MemSink;
+pub use named_file::NamedFile;
 pub use sink::{Sink, write_all};
 pub use status::Status;
