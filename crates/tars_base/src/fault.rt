@@ -1,6 +1,7 @@
 ghost use Rattle.tars_base.specs.declared.fault.ReadFault.TheVariants.{Memory as no_memory};
 ghost use Rattle.std.specs.Prelude.{◌≡◌};
 
+/// Memory ran out.
 pub use std::alloc::AllocError as Memory;
 use std::alloc::AllocFailed;
 use thiserror::Error;
@@ -13,6 +14,7 @@ pub struct Failed;
 /// Why a file was not read.
 #[derive(Clone, Copy, Debug, PartialEq, Eq, Error)]
 pub enum ReadFault {
+    /// The read failed, or there is no such file. The object has counted a fault.
     #[error("read fault")]
     Failed,
     #[error("no memory")]

@@ -32,6 +32,8 @@ impl MemFiles {
     pub fn new(files: Vec<NamedFile>, failing: Vec<u64>) -> Self
         ensures files { result.files ≡ map named files.items }
         ensures calls { result.calls ≡ no_calls failing.items }
+        ensures told { ⟦<MemFiles as Files>⟧.contents result ≡ Some (contents_of (map named files.items)) }
+        ensures no_faults { ⟦<MemFiles as Files>⟧.faults result ≡ 0 }
     {
         MemFiles {
             items: files,

@@ -35,7 +35,9 @@ impl MemSink {
     /// writes that are to fail, counted from 1.
     pub fn new(alloc: Global, step: usize, failing: Vec<u64>) -> Self
         requires { 0 < step }
-        ensures { result ≡ record { bytes = []; room = 0; step = step; calls = no_calls failing.items } }
+        ensures state { result ≡ record { bytes = []; room = 0; step = step; calls = no_calls failing.items } }
+        ensures told { ⟦<MemSink as Sink>⟧.written result ≡ Some [] }
+        ensures no_faults { ⟦<MemSink as Sink>⟧.faults result ≡ 0 }
     {
         MemSink {
             held: Vec::new(alloc),

@@ -10,9 +10,13 @@ pub enum Status {
     Refused,
     /// The words of the command line are none of its forms.
     Usage,
+    /// A file could not be read. Nothing was written.
     ReadFault,
+    /// A front of the text was written, and no more could be.
     WriteFault,
+    /// Memory ran out. Nothing was written.
     Memory,
+    /// The net could not be listened on. Nothing was written.
     NetFault,
 }
 
