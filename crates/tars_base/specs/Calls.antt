@@ -28,6 +28,6 @@ with_fault calls = record { failing = calls.failing; made = calls.made; faults =
 abbrev pub with_call : Calls → Calls
 with_call calls = record { failing = calls.failing; made = one_more calls.made; faults = calls.faults }
 
--- after the next call, whose fault is counted if it is to fail
-abbrev pub after_call : Calls → Calls
-after_call calls = if fails_next calls then with_fault (with_call calls) else with_call calls
+-- after a call that fails or not
+abbrev pub counted : Calls → Bool → Calls
+counted calls fails = if fails then with_fault (with_call calls) else with_call calls

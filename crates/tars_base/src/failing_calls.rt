@@ -1,5 +1,5 @@
 ghost use Rattle.std.specs.Prelude.{◌≡◌, ◌≤◌, IsTrue};
-ghost use Rattle.tars_base.specs.Calls.{no_calls, fails_next, with_fault, after_call};
+ghost use Rattle.tars_base.specs.Calls.{no_calls, fails_next, with_fault, counted};
 ghost use Rattle.tars_base.specs.Causes.{Rose};
 
 use std::marker::Model;
@@ -34,8 +34,9 @@ impl FailingCalls {
     /// Counts a call, and says whether it is to fail.
     pub(crate) fn next_fails(&mut self) -> bool
         ensures answer { result ≡ fails_next self.old }
-        ensures after { self.new ≡ after_call self.old }
-        ensures cause { (self.old.faults ≤ self.new.faults) × (IsTrue result → Rose self.old.faults self.new.faults) }
+        ensures after { self.new ≡ counted self.old (fails_next self.old) }
+        ensures later { self.old.faults ≤ self.new.faults }
+        ensures rose { IsTrue result → Rose self.old.faults self.new.faults }
     {
         self.made = self.made.saturating_add(1);
         let fails = self.numbers.contains(&self.made);
@@ -45,9 +46,11 @@ impl FailingCalls {
         fails
     }
 
+    /// Counts a fault of the last call, beside those that were to fail.
     pub(crate) fn add_fault(&mut self)
         ensures after { self.new ≡ with_fault self.old }
-        ensures cause { (self.old.faults ≤ self.new.faults) × Rose self.old.faults self.new.faults }
+        ensures later { self.old.faults ≤ self.new.faults }
+        ensures rose { Rose self.old.faults self.new.faults }
     {
         self.fault_count = self.fault_count.saturating_add(1);
     }

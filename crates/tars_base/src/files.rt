@@ -15,7 +15,8 @@ pub trait Files {
 
     /// The first `most` bytes of a file, or all of them if it has fewer.
     fn read(&mut self, alloc: Global, name: &str, most: usize) -> Result<Vec<u8>, ReadFault>
-        ensures bytes { IfOk result (λ bytes. IsFrontOfFile (contents self.old) name.now most bytes.items) }
+        ensures bytes { IfOk result
+            (λ bytes. IsFrontOfFile (contents self.old) name.now most bytes.items) }
         ensures within { IfOk result (λ bytes. vec_len bytes ≤ most) }
         ensures same { contents self.new ≡ contents self.old }
         ensures cause { ReadHasCause (faults self.old) (faults self.new) result };

@@ -1,5 +1,5 @@
-ghost use Rattle.std.specs.Prelude.{◌≡◌, ◌≤◌, ◌↔◌, ◌==◌, ℕ, Some, map, IfOk, IsTrue, IsErrOf, vec_len, option_copied, if◌then◌else◌};
-ghost use Rattle.tars_base.specs.Calls.{no_calls, with_call, with_fault};
+ghost use Rattle.std.specs.Prelude.{◌≡◌, ◌≤◌, ◌↔◌, ◌==◌, ℕ, Some, map, IfOk, IsTrue, IsErrOf, vec_len, option_copied};
+ghost use Rattle.tars_base.specs.Calls.{no_calls, counted};
 ghost use Rattle.tars_base.specs.Causes.{ReadHasCause};
 ghost use Rattle.tars_base.specs.Contents.{IsFrontOfFile};
 ghost use Rattle.tars_base.specs.MemFiles.{contents_of, named};
@@ -32,7 +32,8 @@ impl MemFiles {
     pub fn new(files: Vec<NamedFile>, failing: Vec<u64>) -> Self
         ensures files { result.files ≡ map named files.items }
         ensures calls { result.calls ≡ no_calls failing.items }
-        ensures told { ⟦<MemFiles as Files>⟧.contents result ≡ Some (contents_of (map named files.items)) }
+        ensures told { ⟦<MemFiles as Files>⟧.contents result
+            ≡ Some (contents_of (map named files.items)) }
         ensures no_faults { ⟦<MemFiles as Files>⟧.faults result ≡ 0 }
     {
         MemFiles {
@@ -41,6 +42,7 @@ impl MemFiles {
         }
     }
 
+    /// The files, in the order in which they were given.
     pub fn files(&self) -> &[NamedFile]
         ensures { map named result.now ≡ self.now.files }
     {
@@ -68,14 +70,15 @@ impl Files for MemFiles {
     ghost faults = { λ m. m.calls.faults };
 
     fn read(&mut self, alloc: Global, name: &str, most: usize) -> Result<Vec<u8>, ReadFault>
-        ensures bytes { IfOk result (λ bytes. IsFrontOfFile (Some (contents_of self.old.files)) name.now most bytes.items) }
+        ensures bytes { IfOk result
+            (λ bytes. IsFrontOfFile (Some (contents_of self.old.files)) name.now most bytes.items) }
         ensures within { IfOk result (λ bytes. vec_len bytes ≤ most) }
         ensures same { self.new.files ≡ self.old.files }
         ensures cause { ReadHasCause self.old.calls.faults self.new.calls.faults result }
 
         // Which reads fail, and how they are counted.
         ensures failed { IsErrOf result ReadFault.Failed ↔ IsTrue (fails_at self.old name.now) }
-        ensures calls { self.new.calls ≡ (if fails_at self.old name.now then with_fault (with_call self.old.calls) else with_call self.old.calls) }
+        ensures calls { self.new.calls ≡ counted self.old.calls (fails_at self.old name.now) }
     {
         if self.reads.next_fails() {
             return Err(ReadFault::Failed);

@@ -1,6 +1,6 @@
-ghost use Rattle.std.specs.Prelude.{◌≡◌, ◌<◌, ◌≤◌, ◌+◌, ℕ, [], Some, max, length, IfOk, OnOk, OnErr, IsTrue, if◌then◌else◌};
+ghost use Rattle.std.specs.Prelude.{◌≡◌, ◌<◌, ◌≤◌, ◌+◌, ℕ, [], Some, max, length, IfOk, OnOk, OnErr, IsTrue};
 ghost use Rattle.std.specs.Result.{is_err, result_unwrap_or};
-ghost use Rattle.tars_base.specs.Calls.{no_calls, with_call, with_fault};
+ghost use Rattle.tars_base.specs.Calls.{no_calls, counted};
 ghost use Rattle.tars_base.specs.Causes.{HasCause};
 ghost use Rattle.tars_base.specs.Contents.{WriteAppends};
 ghost use Rattle.tars_base.specs.MemSink.{refuses, taken_of};
@@ -35,7 +35,8 @@ impl MemSink {
     /// writes that are to fail, counted from 1.
     pub fn new(alloc: Global, step: usize, failing: Vec<u64>) -> Self
         requires { 0 < step }
-        ensures state { result ≡ record { bytes = []; room = 0; step = step; calls = no_calls failing.items } }
+        ensures state { result
+            ≡ record { bytes = []; room = 0; step = step; calls = no_calls failing.items } }
         ensures told { ⟦<MemSink as Sink>⟧.written result ≡ Some [] }
         ensures no_faults { ⟦<MemSink as Sink>⟧.faults result ≡ 0 }
     {
@@ -47,7 +48,7 @@ impl MemSink {
         }
     }
 
-    /// Makes room for at least `n` bytes more.
+    /// Makes room for at least `n` bytes more, by the allocator that the sink was made with.
     pub fn reserve(&mut self, _alloc: Global, n: usize) -> Result<(), Memory>
         ensures ok { OnOk result (self.new ≡ record self.old { room = max self.old.room n }) }
         ensures err { OnErr result (self.new ≡ self.old) }
@@ -79,7 +80,7 @@ impl Sink for MemSink {
 
         // Which writes fail, how they are counted, and how much the others take.
         ensures failed { is_err result ≡ refuses self.old (length piece.now) }
-        ensures calls { self.new.calls ≡ (if refuses self.old (length piece.now) then with_fault (with_call self.old.calls) else with_call self.old.calls) }
+        ensures calls { self.new.calls ≡ counted self.old.calls (refuses self.old (length piece.now)) }
         ensures taken { IfOk result (λ n. n ≡ taken_of self.old (length piece.now)) }
         ensures room { self.new.room + result_unwrap_or result 0 ≡ self.old.room }
         ensures step { self.new.step ≡ self.old.step }
