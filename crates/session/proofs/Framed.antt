@@ -1,0 +1,13 @@
+-- A packet behind its length.
+use Rattle.std.proofs.Common.{◌≡◌, ◌≤◌, ℕ, ◌+◌, ◌-◌, List, ◌++◌, length, take, drop, refl, sym, ap, ◌∙◌, arith, lit≤, subst}
+use Rattle.std.proofs.lemmas.List.{take_all}
+use Rattle.wire_words.specs.Packets.{framed}
+
+-- four bytes of length, and behind them the body
+pub behind_length : (body : List ℕ) → (4 ≤ length (framed body)) × (take (length (framed body) - 4) (drop 4 (framed body)) ≡ body)
+unfolding framed
+behind_length body = (omega arith, take_all _ body (omega arith))
+
+pub part_behind : (packet body : List ℕ) → packet ≡ framed body → (4 ≤ length packet) × (take (length packet - 4) (drop 4 packet) ≡ body)
+part_behind packet body e =
+    subst (λ (p : List ℕ). (4 ≤ length p) × (take (length p - 4) (drop 4 p) ≡ body)) (sym e) (behind_length body)

@@ -1,0 +1,4 @@
+pub mod PacketFits
+pub mod PacketLengths
+pub mod Framed
+pub mod ServiceLemmas

@@ -1,0 +1,64 @@
+-- How long a packet's body is at most.
+use Rattle.std.proofs.Common.{◌<◌, ◌≤◌, ◌^◌, ◌+◌, ◌*◌, ℕ, ◌≡◌, List, [], ◌∷◌, ◌++◌, length, refl, arith, rules, cond, Bool, true, false, lit≤, length-append, pos}
+use Rattle.std.specs.Prelude.{nat_lt, nat_le, ℤ}
+use Rattle.std.specs.Int.{w8, w16, w32, w64, to_be_bytes}
+use Rattle.wire_words.specs.Tree.{WireNumber, zero_tag, int1, int2, int4, int8, string1, string4, whole, simple_list, map, no_pairs}
+use Rattle.wire_words.specs.Spelling.{head, two_complement, spelled_number, spelled_size, shortest, spelled, spelled_fields}
+use Rattle.tars_model.specs.declared.value.Value.{Value, Num, Text, Blob, Map, out-Value}
+use Rattle.tars_model.specs.declared.value.Value.TheVariants.{outs-Num, outs-Text, outs-Blob, outs-Map}
+use Rattle.tars_model.specs.declared.value.Value.TheOpen as layer
+use Rattle.tars_codec.specs.Written.{wire_text, wire_value, fields_of, written}
+use Rattle.tars_codec.proofs.Layers.{wire_value_at}
+use Rattle.session.specs.declared.rpc_packet.request.Request.{Request}
+use Rattle.session.specs.declared.rpc_packet.response.Response.{Response}
+use Rattle.session.specs.RpcPackets.{IsSendable, IsAnswerable, request_members, request_values, response_members, response_values}
+
+head_short : (tag type : ℕ) → length (head tag type) ≤ 2
+unfolding head
+head_short tag type = go (nat_lt tag 15)
+  where
+    go : (b : Bool) → length (cond b ((tag * 16 + type) ∷ []) ((240 + type) ∷ tag ∷ [])) ≤ 2
+    go true = lit≤ tt
+    go false = lit≤ tt
+
+-- a number takes at most ten bytes
+number_short : (tag : ℕ) (n : WireNumber) → length (spelled_number tag n) ≤ 10
+unfolding spelled_number two_complement
+number_short tag zero_tag = omega (arith, head_short tag 12)
+number_short tag (int1 n) = simp length-append (omega (arith, head_short tag 0))
+number_short tag (int2 n) = simp length-append (omega (arith, head_short tag 1))
+number_short tag (int4 n) = simp length-append (omega (arith, head_short tag 2))
+number_short tag (int8 n) = simp length-append (omega (arith, head_short tag 3))
+
+-- so does the number of a value
+num_short : (tag : ℕ) (n : ℤ) → length (spelled tag (wire_value (Num n))) ≤ 10
+num_short tag n = rw (wire_value_at (Num n) (layer.Num n) (outs-Num n)) (number_short tag (shortest n))
+
+text_short : (tag : ℕ) (bytes : List ℕ) → length (spelled tag (wire_value (Text bytes))) ≤ length bytes + 6
+text_short tag bytes = rw (wire_value_at (Text bytes) (layer.Text bytes) (outs-Text bytes)) (go (nat_le (length bytes) 255))
+  where
+    go : (b : Bool) → length (spelled tag (cond b (string1 bytes) (string4 bytes))) ≤ length bytes + 6
+    go true = simp length-append (omega (arith, head_short tag 6))
+    go false = simp length-append (omega (arith, head_short tag 7))
+
+blob_short : (tag : ℕ) (bytes : List ℕ) → length (spelled tag (wire_value (Blob bytes))) ≤ length bytes + 14
+unfolding spelled_size
+blob_short tag bytes =
+    rw (wire_value_at (Blob bytes) (layer.Blob bytes) (outs-Blob bytes))
+    (simp length-append (omega (arith, head_short tag 13, head_short 0 0, number_short 0 (shortest (pos (length bytes))))))
+
+empty_short : (tag : ℕ) → length (spelled tag (wire_value (Map []))) ≤ 12
+unfolding spelled_size
+empty_short tag =
+    rw (wire_value_at (Map []) (layer.Map []) (outs-Map []))
+    (simp length-append (omega (arith, head_short tag 8, number_short 0 (shortest (pos 0)))))
+
+pub request_short : (r : Request) → IsSendable r → length (written request_members (request_values r)) + 4 < 2 ^ 32
+unfolding written request_members request_values
+request_short r h =
+    simp length-append (omega (arith, num_short 1 (pos 1), num_short 2 (pos 0), num_short 3 (pos 0), num_short 4 (pos r.id), text_short 5 r.servant, text_short 6 r.func, blob_short 7 r.body, num_short 8 (pos r.timeout), empty_short 9, empty_short 10))
+
+pub response_short : (r : Response) → IsAnswerable r → length (written response_members (response_values r)) + 4 < 2 ^ 32
+unfolding written response_members response_values
+response_short r h =
+    simp length-append (omega (arith, num_short 1 (pos 1), num_short 2 (pos 0), num_short 3 (pos r.id), num_short 4 (pos 0), num_short 5 r.ret, blob_short 6 r.body, empty_short 7, text_short 8 []))

@@ -1,0 +1,111 @@
+-- What the calls of a script go to, and what is asked and answered (docs/SCRIPTS.md, "Rules").
+use Rattle.std.specs.Prelude.{◌≡◌, ◌<◌, ◌≤◌, ◌^◌, length, ℕ, ◌&&◌, int_le, if◌then◌else◌, ℤ, pos, negsuc, ◌+ℤ◌, List, [], ◌∷◌, slice_index_or}
+use Rattle.tars_model.specs.declared.func_desc.FuncDesc.{FuncDesc}
+use Rattle.tars_model.specs.declared.interface_desc.InterfaceDesc.{InterfaceDesc}
+use Rattle.tars_model.specs.declared.value.Value.{Value, Num, out-Value}
+use Rattle.tars_model.specs.declared.value.Value.TheOpen as layer
+use Rattle.tars_model.specs.declared.value.Pair.{Pair}
+use Rattle.tars_model.specs.Members.{arguments_of, reply_members_of, required}
+use Rattle.tars_model.specs.declared.ty.Ty.{Int}
+use Rattle.tars_codec.specs.Written.{written}
+use Rattle.session.specs.declared.rpc_packet.request.Request.{Request}
+use Rattle.session.specs.declared.rpc_packet.response.Response.{Response}
+use Rattle.session.specs.RpcPackets.{request_members, response_members}
+use Rattle.session.specs.Sessions.{func_of_two, IsInt}
+use Rattle.session.specs.declared.loaded.CallSpec.{CallSpec}
+use Rattle.session.specs.declared.loaded.Endpoint.{Endpoint}
+use Rattle.session.specs.declared.loaded.Loaded.{Loaded}
+use Rattle.session.specs.declared.loaded.Rule.{Rule}
+use Rattle.session.specs.declared.loaded.Rule.TheVariants.{Add}
+use Rattle.session.specs.declared.service.Service.{Service}
+
+-- What the calls go to.
+
+abbrev pub interface_of : Loaded → InterfaceDesc
+interface_of l = slice_index_or l.client.interfaces l.client_interface (record { «module» = []; name = []; funcs = [] })
+
+abbrev pub func_of : Loaded → ℕ → FuncDesc
+func_of l k = slice_index_or (interface_of l).funcs k (func_of_two [] [] [])
+
+abbrev pub node_of : Loaded → Endpoint
+node_of l = slice_index_or l.object.nodes 0 (record { host = []; port = 0; timeout = 0 })
+
+abbrev pub left_of : Rule → ℕ
+left_of (Add left right) = left
+
+abbrev pub right_of : Rule → ℕ
+right_of (Add left right) = right
+
+abbrev pub rule_of : Loaded → Rule
+rule_of l = (slice_index_or l.rules 0 (record { func = 0; rule = Add 0 0 })).rule
+
+unfoldable pub service_of : Loaded → Service
+service_of l =
+    record {
+      id = l.object.id;
+      func = (func_of l 0).name;
+      timeout = (node_of l).timeout;
+      left = left_of (rule_of l);
+      right = right_of (rule_of l);
+      arguments = arguments_of (func_of l 0);
+      reply = reply_members_of (func_of l 0);
+      request = request_members;
+      response = response_members;
+    }
+
+-- What a node replies to a call: the sum, or the code for an unknown error where it is no int.
+
+pub data Reply : Type 0 where
+  sum : ℤ → Reply
+  code : ℤ → Reply
+
+abbrev pub UNKNOWN : ℤ
+UNKNOWN = negsuc 98
+
+abbrev pub number_of_layer : layer.Value-F Value Pair → ℤ
+number_of_layer (layer.Num n) = n
+number_of_layer _ = pos 0
+
+abbrev pub argument : List Value → ℕ → ℤ
+argument args k = number_of_layer (out-Value (slice_index_or args k (Num (pos 0))))
+
+abbrev pub added : ℤ → Reply
+added n = if int_le (negsuc 2147483647) n && int_le n (pos 2147483647) then sum n else code UNKNOWN
+
+abbrev pub reply_to : Service → List Value → Reply
+reply_to s args = added (argument args s.left +ℤ argument args s.right)
+
+-- The request and the response of a call that was opened under an id.
+
+abbrev pub request_of : Service → CallSpec → ℕ → Request
+request_of s spec id = record { id = id; servant = s.id; func = s.func; body = written s.arguments spec.args; timeout = s.timeout }
+
+abbrev pub response_with : Service → ℕ → Reply → Response
+response_with s id (sum n) = record { id = id; ret = pos 0; body = written s.reply (Num n ∷ []) }
+response_with s id (code n) = record { id = id; ret = n; body = [] }
+
+abbrev pub response_of : Service → CallSpec → ℕ → Response
+response_of s spec id = response_with s id (reply_to s spec.args)
+
+-- What the code relies on of a service and of a call.
+
+-- two ints go in, one comes back
+pub record IsService (s : Service) : Type 0 where
+  pub id_short : length s.id ≤ 4096
+  pub func_short : length s.func ≤ 4096
+  pub timeout_small : s.timeout < 2 ^ 31
+  pub left_place : s.left < 2
+  pub right_place : s.right < 2
+  pub first : List ℕ
+  pub second : List ℕ
+  pub arguments_are : s.arguments ≡ required 1 Int first ∷ required 2 Int second ∷ []
+  pub reply_is : s.reply ≡ required 0 Int [] ∷ []
+  pub request_is : s.request ≡ request_members
+  pub response_is : s.response ≡ response_members
+
+pub record AreTwoInts (args : List Value) : Type 0 where
+  pub first : ℤ
+  pub second : ℤ
+  pub are : args ≡ Num first ∷ Num second ∷ []
+  pub first_int : IsInt first
+  pub second_int : IsInt second

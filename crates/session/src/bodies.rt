@@ -1,0 +1,43 @@
+//! Values as the bodies of packets and calls, and back.
+
+ghost use Rattle.std.specs.Prelude.{◌≡◌, List, IfOk};
+ghost use Rattle.tars_model.specs.declared.value.Value.{Value as AValue};
+ghost use Rattle.tars_model.specs.Fits.{FitMembers, HaveRisingTags};
+ghost use Rattle.tars_codec.specs.Written.{written};
+
+use bytes::BytesMut;
+use std::alloc::{AllocError, Global};
+use tars_codec::{Refuse, decode, encode};
+use tars_model::{List as Listed, Member, Schema, Value};
+
+/// The bytes that spell the values under the members.
+pub(crate) fn write_body(
+    alloc: Global,
+    members: &[Member],
+    values: &[Value],
+) -> Result<Vec<u8>, AllocError>
+    requires rising { HaveRisingTags members.now }
+    requires fits { FitMembers members.now values.now }
+    ensures { IfOk result (λ body. body.items ≡ written members.now values.now) }
+{
+    let mut body = BytesMut::new(alloc);
+    encode(alloc, &Schema::empty(alloc), members, values, &mut body)?;
+    Ok(body.into_vec()?)
+}
+
+/// The values that a body was written from.
+pub(crate) fn read_body(
+    alloc: Global,
+    members: &[Member],
+    body: &[u8],
+) -> Result<Listed<Value>, AllocError>
+    requires rising { HaveRisingTags members.now }
+    requires written { (values : List AValue) × FitMembers members.now values × (body.now ≡ written members.now values) }
+    ensures { (values : List AValue) → FitMembers members.now values → body.now ≡ written members.now values → IfOk result (λ read. read ≡ values) }
+{
+    let schema = Schema::empty(alloc);
+    match decode(alloc, &schema, members, body) {
+        Ok(values) => Ok(values),
+        Err(Refuse::Memory) => Err(AllocError),
+    }
+}

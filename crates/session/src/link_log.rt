@@ -1,0 +1,37 @@
+use crate::CallId;
+use tars_model::{Bytes8, List};
+
+/// A frame that was sent, with the number of its call.
+#[derive(Debug, Drop)]
+pub struct SentRow {
+    pub call: u32,
+    pub frame: Bytes8,
+}
+
+/// What became of a packet that was received.
+#[derive(Clone, Copy, Debug, PartialEq, Eq)]
+pub enum GotFate {
+    /// It settled the call with this id.
+    Used { id: CallId },
+    /// Its call was settled before; with the word of the call table that told so.
+    Late { word: u64 },
+}
+
+/// A packet that was received.
+#[derive(Debug, Drop)]
+pub struct GotRow {
+    pub packet: Bytes8,
+    pub fate: GotFate,
+}
+
+/// What passed on the link to a node.
+#[derive(Debug, Drop)]
+pub struct LinkLog {
+    pub node: u32,
+    pub sent: List<SentRow>,
+    /// What was written of a frame that was not written whole.
+    pub torn: Bytes8,
+    pub got: List<GotRow>,
+    /// What was read behind the last whole packet.
+    pub rest: Bytes8,
+}

@@ -1,0 +1,68 @@
+//! The servant: what it replies to a call's arguments, and the response that carries it.
+
+ghost use Rattle.std.specs.Prelude.{◌≡◌, ◌<◌, ◌≤◌, ◌^◌, ℕ, ℤ, pos, ◌∷◌, [], length, IfOk};
+ghost use Rattle.session.specs.declared.loaded.CallSpec.{CallSpec as Spec};
+ghost use Rattle.session.specs.Sessions.{IsInt};
+ghost use Rattle.session.specs.RpcPackets.{request_frame, response_frame};
+ghost use Rattle.session.specs.Services.{IsService, AreTwoInts, argument, added, request_of, response_of, response_with};
+
+use crate::bodies::{read_body, write_body};
+use crate::rpc_packet::{Response, read_request, write_response};
+use crate::service::Service;
+use std::alloc::{AllocError, Global};
+use tars_model::{Bytes8, Value};
+
+/// The return code of an unknown error, here of a sum that is no int.
+const UNKNOWN: i32 = -99;
+
+/// A whole-number argument.
+fn number_at(args: &[Value], place: u32) -> i64
+    requires ints { AreTwoInts args.now }
+    requires place { place < 2 }
+    ensures value { result ≡ argument args.now place }
+    ensures int { IsInt result }
+{
+    match &args[place as usize] {
+        Value::Num(n) => *n,
+        _ => unreachable!(),
+    }
+}
+
+/// The response that carries a sum, or the code where it is no int.
+#[tactic(auto, using(crate::proofs::ServiceLemmas::reply_rises, crate::proofs::ServiceLemmas::reply_fits, crate::proofs::ServiceLemmas::added_fits, crate::proofs::ServiceLemmas::added_passes))]
+fn response(alloc: Global, service: &Service, id: u32, sum: i64) -> Result<Response, AllocError>
+    requires { IsService service.now }
+    ensures { IfOk result (λ response. response ≡ response_with service.now id (added sum)) }
+{
+    match i32::try_from(sum) {
+        Ok(n) => {
+            let values = [Value::Num(i64::from(n))];
+            let body = write_body(alloc, service.reply.as_slice(), &values)?;
+            Ok(Response {
+                id,
+                ret: 0,
+                body: Bytes8::from_vec(body),
+            })
+        }
+        Err(_) => Ok(Response {
+            id,
+            ret: UNKNOWN,
+            body: Bytes8::from_vec(Vec::new(alloc)),
+        }),
+    }
+}
+
+/// The frame that answers the packet of a request.
+pub(crate) fn answer(alloc: Global, service: &Service, packet: &[u8]) -> Result<Bytes8, AllocError>
+    requires service { IsService service.now }
+    requires written { (spec : Spec) × (id : ℕ) × AreTwoInts spec.args × (id < 2 ^ 31) × (packet.now ≡ request_frame (request_of service.now spec id)) }
+    ensures { (spec : Spec) (id : ℕ) → AreTwoInts spec.args → id < 2 ^ 31 → packet.now ≡ request_frame (request_of service.now spec id)
+        → IfOk result (λ frame. frame ≡ response_frame (response_of service.now spec id)) }
+{
+    let request = read_request(alloc, service.request.as_slice(), packet)?;
+    let args = read_body(alloc, service.arguments.as_slice(), request.body.as_slice())?;
+    let args = args.as_slice();
+    let sum = number_at(args, service.left) + number_at(args, service.right);
+    let response = response(alloc, service, request.id, sum)?;
+    write_response(alloc, service.response.as_slice(), response)
+}

@@ -1,0 +1,23 @@
+ghost use Rattle.std.specs.Prelude.{◌≡◌, ◌≤◌, ℕ, Option, IfOk, vec_len};
+ghost use Rattle.tars_base.specs.Causes.{ReadHasCause};
+ghost use Rattle.tars_base.specs.Contents.{Contents, IsFrontOfFile};
+
+use crate::ReadFault;
+use std::alloc::Global;
+
+/// Files that are read whole, or up to a length.
+pub trait Files {
+    /// What the files hold, where that is told.
+    ghost contents: { Self → Option Contents };
+
+    /// How often a read has failed.
+    ghost faults: { Self → ℕ };
+
+    /// The first `most` bytes of a file, or all of them if it has fewer.
+    fn read(&mut self, alloc: Global, name: &str, most: usize) -> Result<Vec<u8>, ReadFault>
+        ensures bytes { IfOk result
+            (λ bytes. IsFrontOfFile (contents self.old) name.now most bytes.items) }
+        ensures within { IfOk result (λ bytes. vec_len bytes ≤ most) }
+        ensures same { contents self.new ≡ contents self.old }
+        ensures cause { ReadHasCause (faults self.old) (faults self.new) result };
+}
