@@ -1,5 +1,5 @@
 -- A packet behind its length.
-use Rattle.std.proofs.Common.{◌≡◌, ◌≤◌, ℕ, ◌+◌, ◌-◌, List, ◌++◌, length, take, drop, refl, sym, ap, ◌∙◌, arith, lit≤, subst}
+use Rattle.std.proofs.Common.{◌≡◌, ◌≤◌, ℕ, ◌-◌, List, length, take, drop, sym, arith, subst}
 use Rattle.std.proofs.lemmas.List.{take_all}
 use Rattle.wire_words.specs.Packets.{framed}
 

@@ -1,5 +1,5 @@
 -- The values of a packet fit its members, whose tags rise.
-use Rattle.std.proofs.Common.{◌<◌, ◌≤◌, ◌^◌, ℕ, ◌≡◌, List, [], ◌∷◌, refl, arith, rules, lit≤, lit<}
+use Rattle.std.proofs.Common.{ℕ, List, [], rules}
 use Rattle.tars_model.specs.Fits.{FitMembers, HaveRisingTags, AreTextPairs, AreRising}
 use Rattle.tars_model.specs.declared.value.Value.TheVariants.{outs-Num, outs-Text, outs-Blob, outs-Map}
 use Rattle.tars_model.specs.declared.ty.Ty.TheVariants.{outs-Byte, outs-Short, outs-Int, outs-Vector, outs-Text as outs-TextTy, outs-Map as outs-MapTy}

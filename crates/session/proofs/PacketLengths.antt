@@ -1,13 +1,12 @@
 -- How long a packet's body is at most.
-use Rattle.std.proofs.Common.{◌<◌, ◌≤◌, ◌^◌, ◌+◌, ◌*◌, ℕ, ◌≡◌, List, [], ◌∷◌, ◌++◌, length, refl, arith, rules, cond, Bool, true, false, lit≤, length-append, pos}
+use Rattle.std.proofs.Common.{◌<◌, ◌≤◌, ◌^◌, ◌+◌, ◌*◌, ℕ, List, [], ◌∷◌, length, arith, cond, Bool, true, false, lit≤, length-append, pos}
 use Rattle.std.specs.Prelude.{nat_lt, nat_le, ℤ}
-use Rattle.std.specs.Int.{w8, w16, w32, w64, to_be_bytes}
-use Rattle.wire_words.specs.Tree.{WireNumber, zero_tag, int1, int2, int4, int8, string1, string4, whole, simple_list, map, no_pairs}
-use Rattle.wire_words.specs.Spelling.{head, two_complement, spelled_number, spelled_size, shortest, spelled, spelled_fields}
-use Rattle.tars_model.specs.declared.value.Value.{Value, Num, Text, Blob, Map, out-Value}
+use Rattle.wire_words.specs.Tree.{WireNumber, zero_tag, int1, int2, int4, int8, string1, string4}
+use Rattle.wire_words.specs.Spelling.{head, two_complement, spelled_number, spelled_size, shortest, spelled}
+use Rattle.tars_model.specs.declared.value.Value.{Num, Text, Blob, Map}
 use Rattle.tars_model.specs.declared.value.Value.TheVariants.{outs-Num, outs-Text, outs-Blob, outs-Map}
 use Rattle.tars_model.specs.declared.value.Value.TheOpen as layer
-use Rattle.tars_codec.specs.Written.{wire_text, wire_value, fields_of, written}
+use Rattle.tars_codec.specs.Written.{wire_value, written}
 use Rattle.tars_codec.proofs.Layers.{wire_value_at}
 use Rattle.session.specs.declared.rpc_packet.request.Request.{Request}
 use Rattle.session.specs.declared.rpc_packet.response.Response.{Response}
@@ -31,7 +30,7 @@ number_short tag (int4 n) = simp length-append (omega (arith, head_short tag 2))
 number_short tag (int8 n) = simp length-append (omega (arith, head_short tag 3))
 
 -- so does the number of a value
-num_short : (tag : ℕ) (n : ℤ) → length (spelled tag (wire_value (Num n))) ≤ 10
+pub num_short : (tag : ℕ) (n : ℤ) → length (spelled tag (wire_value (Num n))) ≤ 10
 num_short tag n = rw (wire_value_at (Num n) (layer.Num n) (outs-Num n)) (number_short tag (shortest n))
 
 text_short : (tag : ℕ) (bytes : List ℕ) → length (spelled tag (wire_value (Text bytes))) ≤ length bytes + 6

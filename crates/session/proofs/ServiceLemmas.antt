@@ -1,9 +1,8 @@
 -- What the bodies, the request and the response of a call are like.
-use Rattle.std.proofs.Common.{◌≡◌, ◌<◌, ◌≤◌, ◌≤ℤ◌, ◌^◌, ◌+◌, ◌⊎◌, inl, inr, ℕ, ℤ, pos, negsuc, Bool, true, false, cond, List, [], ◌∷◌, ◌++◌, length, refl, sym, ap, subst, ◌∙◌, arith, rules, length-append, lit≤, lit<, int_le}
-use Rattle.std.specs.Prelude.{◌&&◌}
+use Rattle.std.proofs.Common.{◌≡◌, ◌<◌, ◌≤◌, ◌^◌, ◌⊎◌, inl, inr, ℕ, ℤ, pos, negsuc, Bool, true, false, List, [], ◌∷◌, length, refl, sym, subst, arith, rules, length-append, lit≤, T}
+use Rattle.std.specs.Prelude.{int_le}
 use Rattle.tars_model.specs.Fits.{FitMembers, HaveRisingTags}
 use Rattle.tars_model.specs.Members.{required}
-use Rattle.tars_model.specs.declared.member.Member.{Member}
 use Rattle.tars_model.specs.declared.ty.Ty.{Int}
 use Rattle.tars_model.specs.declared.ty.Ty.TheVariants.{outs-Int}
 use Rattle.tars_model.specs.declared.value.Value.{Value, Num}
@@ -12,7 +11,7 @@ use Rattle.tars_codec.specs.Written.{written}
 use Rattle.session.specs.declared.loaded.CallSpec.{CallSpec}
 use Rattle.session.specs.declared.service.Service.{Service}
 use Rattle.session.specs.Sessions.{IsInt}
-use Rattle.session.specs.Services.{IsService, AreTwoInts, Reply, sum, code, UNKNOWN, added, reply_to, argument, request_of, response_of, response_with}
+use Rattle.session.specs.Services.{IsService, AreTwoInts, Asks, Reply, sum, code, UNKNOWN, added, request_of, response_with}
 use Rattle.session.specs.RpcPackets.{IsSendable, IsAnswerable}
 use Rattle.session.proofs.PacketLengths.{num_short}
 
@@ -58,12 +57,53 @@ request_sendable s spec id h ints small = record {
   timeout = h.timeout_small;
 }
 
+-- a test that passed
+passed : (b : Bool) → T b → b ≡ true
+passed true t = refl
+passed false t = absurd t
+
+holds : (b : Bool) → b ≡ true → T b
+holds true e = tt
+holds false e = cc
+
 -- a sum is replied where it is an int, the code where it is none
 pub added_fits : (n : ℤ) → IsInt n → added n ≡ sum n
-added_fits n h = ?
+added_fits n h = rw (passed (int_le (negsuc 2147483647) n) h.0.le, passed (int_le n (pos 2147483647)) h.1.le) refl
+
+abbrev IsFitReply : Reply → Type 0
+IsFitReply (sum n) = IsInt n
+IsFitReply (code n) = IsInt n
+
+either : (n : ℤ) (low high : Bool) → int_le (negsuc 2147483647) n ≡ low → int_le n (pos 2147483647) ≡ high
+    → ((added n ≡ sum n) × IsInt n) ⊎ (added n ≡ code UNKNOWN)
+either n true true a b = inl (added_fits n (int a b), int a b)
+  where
+    int : int_le (negsuc 2147483647) n ≡ true → int_le n (pos 2147483647) ≡ true → IsInt n
+    int a b = (record { le = holds _ a }, record { le = holds _ b })
+either n true false a b = inr (rw (a, b) refl)
+either n false high a b = inr (rw a refl)
 
 pub added_passes : (n : ℤ) → (IsInt n → ⊥) → added n ≡ code UNKNOWN
-added_passes n h = ?
+added_passes n h = go (either n _ _ refl refl)
+  where
+    go : ((added n ≡ sum n) × IsInt n) ⊎ (added n ≡ code UNKNOWN) → added n ≡ code UNKNOWN
+    go (inl p) = absurd (h p.1)
+    go (inr e) = e
 
-pub response_answerable : (s : Service) (spec : CallSpec) (id : ℕ) → IsService s → id < 2 ^ 31 → IsAnswerable (response_of s spec id)
-response_answerable s spec id h small = ?
+added_fit : (n : ℤ) → IsFitReply (added n)
+added_fit n = go (either n _ _ refl refl)
+  where
+    go : ((added n ≡ sum n) × IsInt n) ⊎ (added n ≡ code UNKNOWN) → IsFitReply (added n)
+    go (inl p) = subst IsFitReply (sym p.0) p.1
+    go (inr e) = subst IsFitReply (sym e) (record { le = tt }, record { le = tt })
+
+with_reply : (s : Service) (id : ℕ) (r : Reply) → IsService s → id < 2 ^ 31 → IsFitReply r → IsAnswerable (response_with s id r)
+with_reply s id (sum n) h small fit = record { id = small; ret_low = record { le = tt }; ret_high = record { le = tt }; body = reply_short s n h }
+with_reply s id (code n) h small fit = record { id = small; ret_low = fit.0; ret_high = fit.1; body = lit≤ tt }
+
+pub response_answerable : (s : Service) (id : ℕ) (n : ℤ) → IsService s → id < 2 ^ 31 → IsAnswerable (response_with s id (added n))
+response_answerable s id n h small = with_reply s id (added n) h small (added_fit n)
+
+-- what is read of a request's packet, and the reply to it
+pub asked : (s : Service) (spec : CallSpec) (id : ℕ) (packet : List ℕ) → IsService s → Asks s spec id packet → IsSendable (request_of s spec id)
+asked s spec id packet h a = request_sendable s spec id h a.ints a.small

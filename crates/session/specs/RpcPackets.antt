@@ -1,5 +1,5 @@
 -- Request and response packets (docs/PROTOCOL.md, "Packets"; RequestF.tars of TarsCpp).
-use Rattle.std.specs.Prelude.{◌<◌, ◌≤◌, ◌≤ℤ◌, ◌^◌, length, negsuc, ℕ, Bool, true, false, ℤ, pos, List, [], ◌∷◌, codes}
+use Rattle.std.specs.Prelude.{◌<◌, ◌≤◌, ◌≤ℤ◌, ◌^◌, length, negsuc, ℕ, Bool, true, false, pos, List, [], ◌∷◌, codes}
 use Rattle.tars_model.specs.declared.member.Member.{Member}
 use Rattle.tars_model.specs.declared.ty.Ty.{Ty, Byte, Short, Int, Text as TextTy, Vector, Map as MapTy}
 use Rattle.tars_model.specs.declared.value.Value.{Value, Num, Text, Blob, Map}

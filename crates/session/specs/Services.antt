@@ -10,7 +10,7 @@ use Rattle.tars_model.specs.declared.ty.Ty.{Int}
 use Rattle.tars_codec.specs.Written.{written}
 use Rattle.session.specs.declared.rpc_packet.request.Request.{Request}
 use Rattle.session.specs.declared.rpc_packet.response.Response.{Response}
-use Rattle.session.specs.RpcPackets.{request_members, response_members}
+use Rattle.session.specs.RpcPackets.{request_members, response_members, request_frame}
 use Rattle.session.specs.Sessions.{func_of_two, IsInt}
 use Rattle.session.specs.declared.loaded.CallSpec.{CallSpec}
 use Rattle.session.specs.declared.loaded.Endpoint.{Endpoint}
@@ -109,3 +109,9 @@ pub record AreTwoInts (args : List Value) : Type 0 where
   pub are : args ≡ Num first ∷ Num second ∷ []
   pub first_int : IsInt first
   pub second_int : IsInt second
+
+-- a packet is the request of this call under this id
+pub record Asks (s : Service) (spec : CallSpec) (id : ℕ) (packet : List ℕ) : Type 0 where
+  pub ints : AreTwoInts spec.args
+  pub small : id < 2 ^ 31
+  pub bytes : packet ≡ request_frame (request_of s spec id)

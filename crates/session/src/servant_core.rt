@@ -1,16 +1,18 @@
 //! The servant: what it replies to a call's arguments, and the response that carries it.
 
-ghost use Rattle.std.specs.Prelude.{◌≡◌, ◌<◌, ◌≤◌, ◌^◌, ℕ, ℤ, pos, ◌∷◌, [], length, IfOk};
+ghost use Rattle.std.specs.Prelude.{◌≡◌, ◌<◌, ◌≤◌, ◌^◌, ℕ, ℤ, pos, ◌+ℤ◌, List as Listed, IfOk};
 ghost use Rattle.session.specs.declared.loaded.CallSpec.{CallSpec as Spec};
 ghost use Rattle.session.specs.Sessions.{IsInt};
-ghost use Rattle.session.specs.RpcPackets.{request_frame, response_frame};
-ghost use Rattle.session.specs.Services.{IsService, AreTwoInts, argument, added, request_of, response_of, response_with};
+ghost use Rattle.tars_model.specs.declared.value.Value.{Value as AValue};
+ghost use Rattle.tars_codec.specs.Written.{written};
+ghost use Rattle.session.specs.RpcPackets.{response_frame};
+ghost use Rattle.session.specs.Services.{IsService, AreTwoInts, Asks, argument, added, response_of, response_with};
 
 use crate::bodies::{read_body, write_body};
 use crate::rpc_packet::{Response, read_request, write_response};
 use crate::service::Service;
 use std::alloc::{AllocError, Global};
-use tars_model::{Bytes8, Value};
+use tars_model::{Bytes8, List, Value};
 
 /// The return code of an unknown error, here of a sum that is no int.
 const UNKNOWN: i32 = -99;
@@ -52,17 +54,35 @@ fn response(alloc: Global, service: &Service, id: u32, sum: i64) -> Result<Respo
     }
 }
 
+/// The arguments that a call's body was written from.
+#[tactic(auto, using(crate::proofs::ServiceLemmas::arguments_rise, crate::proofs::ServiceLemmas::arguments_fit))]
+fn read_args(alloc: Global, service: &Service, body: &[u8]) -> Result<List<Value>, AllocError>
+    requires service { IsService service.now }
+    requires written { (args : Listed AValue) × AreTwoInts args × (body.now ≡ written service.now.arguments args) }
+    ensures { (args : Listed AValue) → AreTwoInts args → body.now ≡ written service.now.arguments args → IfOk result (λ read. read ≡ args) }
+{
+    read_body(alloc, service.arguments.as_slice(), body)
+}
+
+/// The sum of the two arguments of the rule.
+fn sum_of(service: &Service, args: &[Value]) -> i64
+    requires service { IsService service.now }
+    requires ints { AreTwoInts args.now }
+    ensures { result ≡ (argument args.now service.now.left +ℤ argument args.now service.now.right) }
+{
+    number_at(args, service.left) + number_at(args, service.right)
+}
+
 /// The frame that answers the packet of a request.
 pub(crate) fn answer(alloc: Global, service: &Service, packet: &[u8]) -> Result<Bytes8, AllocError>
     requires service { IsService service.now }
-    requires written { (spec : Spec) × (id : ℕ) × AreTwoInts spec.args × (id < 2 ^ 31) × (packet.now ≡ request_frame (request_of service.now spec id)) }
-    ensures { (spec : Spec) (id : ℕ) → AreTwoInts spec.args → id < 2 ^ 31 → packet.now ≡ request_frame (request_of service.now spec id)
+    requires written { (spec : Spec) × (id : ℕ) × Asks service.now spec id packet.now }
+    ensures { (spec : Spec) (id : ℕ) → Asks service.now spec id packet.now
         → IfOk result (λ frame. frame ≡ response_frame (response_of service.now spec id)) }
 {
     let request = read_request(alloc, service.request.as_slice(), packet)?;
-    let args = read_body(alloc, service.arguments.as_slice(), request.body.as_slice())?;
-    let args = args.as_slice();
-    let sum = number_at(args, service.left) + number_at(args, service.right);
+    let args = read_args(alloc, service, request.body.as_slice())?;
+    let sum = sum_of(service, args.as_slice());
     let response = response(alloc, service, request.id, sum)?;
     write_response(alloc, service.response.as_slice(), response)
 }

@@ -1,4 +1,4 @@
-use Rattle.std.proofs.Common.{◌≡◌, ◌<◌, Bool, true, false, take, drop, length, List, [], ◌∷◌, ◌++◌, ℕ, refl, sym, ap, ◌∙◌, arith, append_assoc, append-nil, length-drop}
+use Rattle.std.proofs.Common.{◌≡◌, ◌<◌, true, take, drop, length, List, [], ◌∷◌, ◌++◌, ℕ, sym, ap, ◌∙◌, arith, append_assoc, append-nil, length-drop}
 use Rattle.wire_words.specs.Packets.{first_length, has_packet, packets_of}
 use Rattle.wire_words.proofs.PacketLaws.{packet_parts, packets_of-some, packets_of-none}
 use Rattle.session.proofs.tars_frames.whole_packets.Goals as goal
