@@ -1,0 +1,127 @@
+-- What loading a script gives, where the contents of files are told (docs/SCRIPTS.md, "Loading").
+use Rattle.std.specs.Prelude.{◌≡◌, ℕ, ◌+◌, if◌then◌else◌, ◌⊎◌, Some, None, List, [], ◌∷◌, ◌++◌, codes}
+use Rattle.std.specs.List.{AllByRecursion}
+use Rattle.std.specs.Str.{bytes_eq}
+use Rattle.std.specs.Str.Parse.{digits_value}
+use Rattle.tars_base.specs.Contents.{Contents}
+use Rattle.tars_model.specs.declared.value.Value.{Num}
+use Rattle.session.specs.declared.loaded.Event.{Event}
+use Rattle.session.specs.declared.loaded.Event.TheVariants.{Call, Serve, Work, Deliver, Close}
+use Rattle.session.specs.declared.loaded.Loaded.{Loaded}
+use Rattle.session.specs.declared.loaded.Rule.TheVariants.{Add}
+use Rattle.session.specs.InterfaceText.{InterfaceText, IsInterfaceText}
+use Rattle.session.specs.ScriptText.{ScriptText, IsScriptText, EventText, call, serve, work, deliver, close, object_id}
+use Rattle.session.specs.Sessions.{IsInt, func_of_two, schema_of_one}
+use Rattle.session.specs.Words.{number_of}
+
+-- The lines of a refusal: the refused file's name, what was wrong, a number and a place.
+
+abbrev pub refusal_line : List ℕ → List ℕ → List ℕ
+refusal_line name what = codes "refused " ++ name ++ what ++ codes "\n"
+
+-- a script of no accepted form
+abbrev pub BAD_SCRIPT : List ℕ
+BAD_SCRIPT = codes " script 1 0"
+
+-- an interface file of no accepted form
+abbrev pub BAD_INTERFACE : List ℕ
+BAD_INTERFACE = codes " parse 5 0"
+
+-- a name that is not the interface file's, or an argument that is no int
+abbrev pub BAD_VALUE : List ℕ
+BAD_VALUE = codes " script 7 0"
+
+-- What a script and an interface file have to agree on.
+
+abbrev pub IsParameter : InterfaceText → List ℕ → Type 0
+IsParameter i name = (name ≡ i.first) ⊎ (name ≡ i.second)
+
+abbrev pub IsEventOf : InterfaceText → EventText → Type 0
+IsEventOf i (call func a b) = (func ≡ i.func) × IsInt (number_of a) × IsInt (number_of b)
+IsEventOf i _ = Unit {0}
+
+pub record Agree (s : ScriptText) (i : InterfaceText) : Type 0 where
+  pub module_name : s.module_name ≡ i.module_name
+  pub interface : s.interface ≡ i.interface
+  pub func : s.func ≡ i.func
+  pub left : IsParameter i s.left
+  pub right : IsParameter i s.right
+  pub events : AllByRecursion (IsEventOf i) s.events
+
+-- What is loaded from a script and an interface file that agree.
+
+-- calls are numbered from a first number on
+abbrev pub events_from : ℕ → List EventText → List Event
+events_from n [] = []
+events_from n (call func a b ∷ events) =
+    Call (record { call = n; line = 1; func = 0; args = Num (number_of a) ∷ Num (number_of b) ∷ [] })
+    ∷ events_from (n + 1) events
+events_from n (serve ∷ events) = Serve ∷ events_from n events
+events_from n (work ∷ events) = Work ∷ events_from n events
+events_from n (deliver ∷ events) = Deliver ∷ events_from n events
+events_from n (close ∷ events) = Close ∷ events_from n events
+
+-- the place of a parameter among the arguments
+abbrev pub place_of : InterfaceText → List ℕ → ℕ
+place_of i name = if bytes_eq name i.first then 0 else 1
+
+abbrev pub loaded_of : ScriptText → InterfaceText → Loaded
+loaded_of s i =
+    record {
+      client = schema_of_one i.module_name i.interface (func_of_two i.func i.first i.second);
+      client_interface = 0;
+      object =
+          record {
+            id = object_id s.object;
+            nodes =
+                record {
+                  host = s.object.host;
+                  port = digits_value 10 s.object.port;
+                  timeout = digits_value 10 s.object.timeout;
+                }
+                ∷ [];
+          };
+      rules = record { func = 0; rule = Add (place_of i s.left) (place_of i s.right) } ∷ [];
+      events = events_from 1 s.events;
+    }
+
+-- What loading gives: a session, a refusal line, or the name of a file that is needed and not there.
+pub data LoadAnswer : Type 0 where
+  loaded : Loaded → LoadAnswer
+  refused : List ℕ → LoadAnswer
+  unread : List ℕ → LoadAnswer
+
+-- Loading a script gives this answer. The script is judged before its interface file is read, that file
+-- before names and values.
+pub data Loads (contents : Contents) (script : List ℕ) : LoadAnswer → Type 0 where
+  no_script : contents script ≡ None → Loads contents script (unread script)
+  bad_script :
+      (text : List ℕ) → contents script ≡ Some text → ((s : ScriptText) → IsScriptText s text → ⊥)
+      → Loads contents script (refused (refusal_line script BAD_SCRIPT))
+  no_interface :
+      (text : List ℕ) (s : ScriptText) → contents script ≡ Some text → IsScriptText s text
+      → contents s.client ≡ None
+      → Loads contents script (unread s.client)
+  bad_interface :
+      (text file : List ℕ) (s : ScriptText) → contents script ≡ Some text → IsScriptText s text
+      → contents s.client ≡ Some file → ((i : InterfaceText) → IsInterfaceText i file → ⊥)
+      → Loads contents script (refused (refusal_line s.client BAD_INTERFACE))
+  bad_value :
+      (text file : List ℕ) (s : ScriptText) (i : InterfaceText) → contents script ≡ Some text → IsScriptText s text
+      → contents s.client ≡ Some file → IsInterfaceText i file → (Agree s i → ⊥)
+      → Loads contents script (refused (refusal_line script BAD_VALUE))
+  session :
+      (text file : List ℕ) (s : ScriptText) (i : InterfaceText) → contents script ≡ Some text → IsScriptText s text
+      → contents s.client ≡ Some file → IsInterfaceText i file → Agree s i
+      → Loads contents script (loaded (loaded_of s i))
+
+-- a session that was loaded from texts that are accepted and agree
+pub record IsLoaded (l : Loaded) : Type 0 where
+  pub script : ScriptText
+  pub interface : InterfaceText
+  pub script_bytes : List ℕ
+  pub interface_bytes : List ℕ
+  pub script_form : IsScriptText script script_bytes
+  pub interface_form : IsInterfaceText interface interface_bytes
+  pub agree : Agree script interface
+  pub is : l ≡ loaded_of script interface
