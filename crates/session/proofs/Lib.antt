@@ -2,3 +2,8 @@ pub mod PacketFits
 pub mod PacketLengths
 pub mod Framed
 pub mod ServiceLemmas
+pub mod PlanLemmas
+pub mod FramesArePackets
+pub mod TrackLemmas
+pub mod Deliveries
+pub mod Moved

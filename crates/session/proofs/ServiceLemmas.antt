@@ -1,5 +1,5 @@
 -- What the bodies, the request and the response of a call are like.
-use Rattle.std.proofs.Common.{◌≡◌, ◌<◌, ◌≤◌, ◌^◌, ◌⊎◌, inl, inr, ℕ, ℤ, pos, negsuc, Bool, true, false, List, [], ◌∷◌, length, refl, sym, subst, arith, rules, length-append, lit≤, T}
+use Rattle.std.proofs.Common.{◌≡◌, ◌<◌, ◌≤◌, ◌^◌, ◌⊎◌, inl, inr, ◌+ℤ◌, ℕ, ℤ, pos, negsuc, Bool, true, false, List, [], ◌∷◌, length, refl, sym, ap, subst, ◌∙◌, of_z, w32, arith, rules, length-append, lit≤, T}
 use Rattle.std.specs.Prelude.{int_le}
 use Rattle.tars_model.specs.Fits.{FitMembers, HaveRisingTags}
 use Rattle.tars_model.specs.Members.{required}
@@ -8,10 +8,10 @@ use Rattle.tars_model.specs.declared.ty.Ty.TheVariants.{outs-Int}
 use Rattle.tars_model.specs.declared.value.Value.{Value, Num}
 use Rattle.tars_model.specs.declared.value.Value.TheVariants.{outs-Num}
 use Rattle.tars_codec.specs.Written.{written}
-use Rattle.session.specs.declared.loaded.CallSpec.{CallSpec}
+use Rattle.session.specs.declared.rpc_packet.response.Response.{Response}
 use Rattle.session.specs.declared.service.Service.{Service}
 use Rattle.session.specs.Sessions.{IsInt}
-use Rattle.session.specs.Services.{IsService, AreTwoInts, Asks, Reply, sum, code, UNKNOWN, added, request_of, response_with}
+use Rattle.session.specs.Services.{IsService, AreTwoInts, Asks, Reply, sum, code, UNKNOWN, added, argument, reply_to, request_of, response_of, response_with}
 use Rattle.session.specs.RpcPackets.{IsSendable, IsAnswerable}
 use Rattle.session.proofs.PacketLengths.{num_short}
 
@@ -48,12 +48,12 @@ one_short n = simp length-append (omega (arith, num_short 0 n))
 pub reply_short : (s : Service) (n : ℤ) → IsService s → length (written s.reply (Num n ∷ [])) ≤ 4096
 reply_short s n h = rw h.reply_is (one_short n)
 
-pub request_sendable : (s : Service) (spec : CallSpec) (id : ℕ) → IsService s → AreTwoInts spec.args → id < 2 ^ 31 → IsSendable (request_of s spec id)
-request_sendable s spec id h ints small = record {
+pub request_sendable : (s : Service) (args : List Value) (id : ℕ) → IsService s → AreTwoInts args → id < 2 ^ 31 → IsSendable (request_of s args id)
+request_sendable s args id h ints small = record {
   id = small;
   servant = h.id_short;
   func = h.func_short;
-  body = arguments_short s spec.args h ints;
+  body = arguments_short s args h ints;
   timeout = h.timeout_small;
 }
 
@@ -105,5 +105,52 @@ pub response_answerable : (s : Service) (id : ℕ) (n : ℤ) → IsService s →
 response_answerable s id n h small = with_reply s id (added n) h small (added_fit n)
 
 -- what is read of a request's packet, and the reply to it
-pub asked : (s : Service) (spec : CallSpec) (id : ℕ) (packet : List ℕ) → IsService s → Asks s spec id packet → IsSendable (request_of s spec id)
-asked s spec id packet h a = request_sendable s spec id h a.ints a.small
+pub asked : (s : Service) (args : List Value) (id : ℕ) (packet : List ℕ) → IsService s → Asks s args id packet → IsSendable (request_of s args id)
+asked s args id packet h a = request_sendable s args id h a.ints a.small
+
+-- A response with the code 0 carries a sum; another's code is the reply.
+pub record IsSum (s : Service) (args : List Value) (r : Response) : Type 0 where
+  pub n : ℤ
+  pub reply : reply_to s args ≡ sum n
+  pub fits : FitMembers s.reply (Num n ∷ [])
+  pub body : r.body ≡ written s.reply (Num n ∷ [])
+
+-- as the machine keeps it
+not_unknown : of_z w32 UNKNOWN ≡ 0 → ⊥
+not_unknown e = absurd (omega arith)
+
+pub sum_replied : (s : Service) (args : List Value) (id : ℕ) (r : Response) → IsService s → r ≡ response_of s args id → of_z w32 r.ret ≡ 0 → IsSum s args r
+sum_replied s args id r h e zero = go (either n _ _ refl refl)
+  where
+    n : ℤ
+    n = argument args s.left +ℤ argument args s.right
+
+    go : ((added n ≡ sum n) × IsInt n) ⊎ (added n ≡ code UNKNOWN) → IsSum s args r
+    go (inl p) = record {
+      n = n;
+      reply = p.0;
+      fits = reply_fits s n h p.1;
+      body = ap (λ (x : Response). x.body) (e ∙ ap (response_with s id) p.0);
+    }
+    go (inr u) = absurd (not_unknown (sym (ap (λ (x : Response). of_z w32 x.ret) (e ∙ ap (response_with s id) u)) ∙ zero))
+
+pub code_replied : (s : Service) (args : List Value) (id : ℕ) (r : Response) → IsService s → r ≡ response_of s args id → (of_z w32 r.ret ≡ 0 → ⊥) → reply_to s args ≡ code r.ret
+code_replied s args id r h e other = go (either n _ _ refl refl)
+  where
+    n : ℤ
+    n = argument args s.left +ℤ argument args s.right
+
+    go : ((added n ≡ sum n) × IsInt n) ⊎ (added n ≡ code UNKNOWN) → reply_to s args ≡ code r.ret
+    go (inl p) = absurd (other (ap (λ (x : Response). of_z w32 x.ret) (e ∙ ap (response_with s id) p.0)))
+    go (inr u) = u ∙ ap code (sym (ap (λ (x : Response). x.ret) (e ∙ ap (response_with s id) u)))
+
+pub answered : (s : Service) (args : List Value) (id : ℕ) → IsService s → id < 2 ^ 31 → IsAnswerable (response_of s args id)
+answered s args id h small = response_answerable s id (argument args s.left +ℤ argument args s.right) h small
+
+-- a response has its call's id
+pub id_of_response : (s : Service) (args : List Value) (id : ℕ) → (response_of s args id).id ≡ id
+id_of_response s args id = go (reply_to s args)
+  where
+    go : (r : Reply) → (response_with s id r).id ≡ id
+    go (sum n) = refl
+    go (code n) = refl

@@ -1,7 +1,7 @@
 -- What has happened after each event of a script, in plain lists (docs/SCRIPTS.md, "Events").
 use Rattle.std.specs.Prelude.{ℕ, ◌+◌, Bool, true, false, ◌&&◌, ◌==◌, is_none, nat_lt, nat_le, if◌then◌else◌, Option, Some, None, List, [], ◌∷◌, ◌++◌, length, take, drop, map, fold}
-use Rattle.std.specs.List.{flat_map, filter_map, list_any}
-use Rattle.tars_model.specs.declared.value.Value.{Num}
+use Rattle.std.specs.List.{flat_map, list_any}
+use Rattle.tars_model.specs.declared.value.Value.{Value, Num}
 use Rattle.wire_words.specs.Packets.{packets_of}
 use Rattle.session.specs.RpcPackets.{request_frame, response_frame}
 use Rattle.session.specs.declared.link_log.GotFate.{GotFate}
@@ -13,7 +13,9 @@ use Rattle.session.specs.declared.report.CallId.{CallId}
 use Rattle.session.specs.declared.report.End.{End}
 use Rattle.session.specs.declared.report.End.TheVariants.{Value as ValueEnd, Code, Closed, Refused}
 use Rattle.session.specs.declared.report.PickNote.{PickNote}
+use Rattle.session.specs.declared.report.Refusal.{Refusal}
 use Rattle.session.specs.declared.report.Refusal.TheVariants as refusal
+use Rattle.session.specs.declared.pending.Pending.{Pending}
 use Rattle.session.specs.declared.report.Why.TheVariants.{Live}
 use Rattle.session.specs.declared.service.Service.{Service}
 use Rattle.session.specs.Services.{Reply, sum, code, reply_to, request_of, response_of}
@@ -28,18 +30,12 @@ NODE = 1
 
 -- What has happened.
 
--- a scripted call: the node that was picked, the id if it was opened, the end once it has one
-pub record CallCourse : Type 0 where
-  pub spec : CallSpec
-  pub pick : Option PickNote
-  pub id : Option CallId
-  pub end : Option End
-
--- Calls in script order; how many bytes of the frames sent the node has read, how many of the
--- requests in them it has answered, how many bytes of its answers the caller has read; what became
--- of each packet that the caller got.
+-- Scripted calls so far, in order, with their arguments: a call has no end while it is open. Then how
+-- many bytes of the frames sent the node has read, how many of the requests in them it has answered,
+-- how many bytes of its answers the caller has read; what became of each packet that the caller got.
 pub record Course : Type 0 where
-  pub calls : List CallCourse
+  pub calls : List Pending
+  pub args : List (List Value)
   pub served : ℕ
   pub answered : ℕ
   pub delivered : ℕ
@@ -47,29 +43,32 @@ pub record Course : Type 0 where
   pub closed : Bool
 
 abbrev pub start : Course
-start = record { calls = []; served = 0; answered = 0; delivered = 0; fates = []; closed = false }
+start = record { calls = []; args = []; served = 0; answered = 0; delivered = 0; fates = []; closed = false }
 
--- a call that was opened, with its id
+-- a call that was opened: its number, its arguments and its id
 pub record Opened : Type 0 where
-  pub spec : CallSpec
+  pub call : ℕ
+  pub args : List Value
   pub id : ℕ
 
-abbrev pub opened_of : CallCourse → Option Opened
-opened_of call = with_id call.id
-  where
-    with_id : Option CallId → Option Opened
-    with_id None = None
-    with_id (Some id) = Some (record { spec = call.spec; id = id.0 })
+abbrev pub with_id : ℕ → List Value → Option CallId → List Opened
+with_id call args None = []
+with_id call args (Some id) = record { call = call; args = args; id = id.0 } ∷ []
+
+abbrev pub opened_among : List Pending → List (List Value) → List Opened
+opened_among [] args = []
+opened_among (call ∷ calls) [] = []
+opened_among (call ∷ calls) (args ∷ more) = with_id call.call args call.id ++ opened_among calls more
 
 -- the calls that were opened, in order: each was sent, and is in flight until the end
 abbrev pub opened : Course → List Opened
-opened c = filter_map opened_of c.calls
+opened c = opened_among c.calls c.args
 
 abbrev pub sent_frame : Service → Opened → List ℕ
-sent_frame s o = request_frame (request_of s o.spec o.id)
+sent_frame s o = request_frame (request_of s o.args o.id)
 
 abbrev pub answer_frame : Service → Opened → List ℕ
-answer_frame s o = response_frame (response_of s o.spec o.id)
+answer_frame s o = response_frame (response_of s o.args o.id)
 
 abbrev pub joined : List (List ℕ) → List ℕ
 joined frames = flat_map (λ frame. frame) frames
@@ -97,43 +96,56 @@ received s c = packets_of (take c.delivered (answers_stream s c))
 abbrev pub live_node : Option PickNote
 live_node = Some (record { node = NODE; why = Live })
 
-unfoldable pub began : Course → CallSpec → CallCourse
-began c spec =
-    if nat_le WIDTH (length (opened c)) then record { spec = spec; pick = None; id = None; end = Some (Refused refusal.Full) }
-    else (if c.closed then record { spec = spec; pick = live_node; id = None; end = Some (Refused (refusal.Closed 0)) }
-    else record { spec = spec; pick = live_node; id = Some (record { 0 = length (opened c) + 1 }); end = None })
+-- a call that was not sent, and one that was
+abbrev pub not_sent : CallSpec → Option PickNote → Refusal → Pending
+not_sent spec pick why =
+    record { call = spec.call; line = spec.line; func = spec.func; pick = pick; id = None; end = Some (Refused why) }
 
--- A reply settles its call if that is open.
+abbrev pub open_under : CallSpec → ℕ → Pending
+open_under spec id =
+    record { call = spec.call; line = spec.line; func = spec.func; pick = live_node; id = Some (record { 0 = id }); end = None }
+
+unfoldable pub began : Course → CallSpec → Pending
+began c spec =
+    if nat_le WIDTH (length (opened c)) then not_sent spec None refusal.Full
+    else (if c.closed then not_sent spec live_node (refusal.Closed 0)
+    else open_under spec (length (opened c) + 1))
+
+-- A reply settles the call that is open under its id.
 abbrev pub outcome : ℕ → Reply → End
 outcome packet (sum n) = ValueEnd NODE packet (Num n ∷ [])
 outcome packet (code n) = Code NODE packet n
 
-abbrev pub has_id : ℕ → CallCourse → Bool
-has_id id call = same call.id && is_none call.end
-  where
-    same : Option CallId → Bool
-    same None = false
-    same (Some own) = own.0 == id
+abbrev pub has_id : ℕ → Option CallId → Bool
+has_id id None = false
+has_id id (Some own) = own.0 == id
 
-abbrev pub settled : ℕ → End → CallCourse → CallCourse
-settled id end call = if has_id id call then record call { end = Some end } else call
+abbrev pub is_open_under : ℕ → Pending → Bool
+is_open_under id call = has_id id call.id && is_none call.end
+
+abbrev pub settle : ℕ → End → List Pending → List Pending
+settle id end [] = []
+settle id end (call ∷ calls) =
+    if is_open_under id call then record call { end = Some end } ∷ calls else call ∷ settle id end calls
+
+-- what becomes of a packet with this id
+abbrev pub fate_of : ℕ → List Pending → GotFate
+fate_of id calls = if list_any (is_open_under id) calls then Used (record { 0 = id }) else Late 0
 
 -- the next packet that the caller gets is the answer to this call
 unfoldable pub got : Service → Course → Opened → Course
 got s c o =
-    if list_any (has_id o.id) c.calls
-    then record c {
-      calls = map (settled o.id (outcome (length c.fates + 1) (reply_to s o.spec.args))) c.calls;
-      fates = c.fates ++ Used (record { 0 = o.id }) ∷ [];
+    record c {
+      calls = settle o.id (outcome (length c.fates + 1) (reply_to s o.args)) c.calls;
+      fates = c.fates ++ fate_of o.id c.calls ∷ [];
     }
-    else record c { fates = c.fates ++ Late 0 ∷ [] }
 
-abbrev pub closed_call : CallCourse → CallCourse
+abbrev pub closed_call : Pending → Pending
 closed_call call = if is_none call.end then record call { end = Some Closed } else call
 
 -- What an event makes of what has happened.
 abbrev pub step : Service → Course → Event → Course
-step s c (Call spec) = record c { calls = c.calls ++ began c spec ∷ [] }
+step s c (Call spec) = record c { calls = c.calls ++ began c spec ∷ []; args = c.args ++ spec.args ∷ [] }
 step s c Serve = record c { served = length (requests_stream s c) }
 step s c Work = if nat_lt c.answered (length (offered s c)) then record c { answered = c.answered + 1 } else c
 step s c Deliver =

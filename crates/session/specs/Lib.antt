@@ -7,3 +7,4 @@ pub mod Services
 pub mod Courses
 pub mod Planned
 pub mod Loading
+pub mod Tracks

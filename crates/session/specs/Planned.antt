@@ -6,6 +6,7 @@ use Rattle.session.specs.declared.link_log.GotRow.{GotRow}
 use Rattle.session.specs.declared.link_log.LinkLog.{LinkLog}
 use Rattle.session.specs.declared.link_log.SentRow.{SentRow}
 use Rattle.session.specs.declared.loaded.Loaded.{Loaded}
+use Rattle.session.specs.declared.pending.Pending.{Pending}
 use Rattle.session.specs.declared.report.End.{End}
 use Rattle.session.specs.declared.report.End.TheVariants.{Value as ValueEnd, Code, Closed}
 use Rattle.session.specs.declared.report.PickNote.{PickNote}
@@ -15,16 +16,16 @@ use Rattle.session.specs.declared.report.RouteStep.TheVariants.{Picked, Reported
 use Rattle.session.specs.declared.report.Row.{Row}
 use Rattle.session.specs.declared.service.Service.{Service}
 use Rattle.session.specs.Services.{service_of}
-use Rattle.session.specs.Courses.{NODE, Course, CallCourse, Opened, opened, sent_frame, received, after_all}
+use Rattle.session.specs.Courses.{NODE, Course, Opened, opened, sent_frame, received, after_all}
 
 -- The rows that come of it. What is still open ends as closed.
 
-abbrev pub row_of : CallCourse → Row
+abbrev pub row_of : Pending → Row
 row_of call =
     record {
-      call = call.spec.call;
-      line = call.spec.line;
-      func = call.spec.func;
+      call = call.call;
+      line = call.line;
+      func = call.func;
       two_way = true;
       pick = call.pick;
       id = call.id;
@@ -32,25 +33,25 @@ row_of call =
     }
 
 abbrev pub sent_row : Service → Opened → SentRow
-sent_row s o = record { call = o.spec.call; frame = sent_frame s o }
+sent_row s o = record { call = o.call; frame = sent_frame s o }
 
 abbrev pub got_rows : List (List ℕ) → List GotFate → List GotRow
 got_rows (packet ∷ packets) (fate ∷ fates) = record { packet = packet; fate = fate } ∷ got_rows packets fates
 got_rows _ _ = []
 
-abbrev pub picked_step : CallCourse → Option RouteStep
+abbrev pub picked_step : Pending → Option RouteStep
 picked_step call = step_of call.pick
   where
     step_of : Option PickNote → Option RouteStep
     step_of None = None
-    step_of (Some note) = Some (Picked call.spec.call note.node note.why 0 0)
+    step_of (Some note) = Some (Picked call.call note.node note.why 0 0)
 
 -- a collected reply is reported as a success
-abbrev pub reported_step : CallCourse → Option RouteStep
+abbrev pub reported_step : Pending → Option RouteStep
 reported_step call = step_of call.end
   where
     success : Option RouteStep
-    success = Some (Reported call.spec.call NODE 0 true 0)
+    success = Some (Reported call.call NODE 0 true 0)
 
     step_of : Option End → Option RouteStep
     step_of (Some (ValueEnd link packet values)) = success

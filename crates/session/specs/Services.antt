@@ -12,7 +12,6 @@ use Rattle.session.specs.declared.rpc_packet.request.Request.{Request}
 use Rattle.session.specs.declared.rpc_packet.response.Response.{Response}
 use Rattle.session.specs.RpcPackets.{request_members, response_members, request_frame}
 use Rattle.session.specs.Sessions.{func_of_two, IsInt}
-use Rattle.session.specs.declared.loaded.CallSpec.{CallSpec}
 use Rattle.session.specs.declared.loaded.Endpoint.{Endpoint}
 use Rattle.session.specs.declared.loaded.Loaded.{Loaded}
 use Rattle.session.specs.declared.loaded.Rule.{Rule}
@@ -77,15 +76,15 @@ reply_to s args = added (argument args s.left +ℤ argument args s.right)
 
 -- The request and the response of a call that was opened under an id.
 
-abbrev pub request_of : Service → CallSpec → ℕ → Request
-request_of s spec id = record { id = id; servant = s.id; func = s.func; body = written s.arguments spec.args; timeout = s.timeout }
+abbrev pub request_of : Service → List Value → ℕ → Request
+request_of s args id = record { id = id; servant = s.id; func = s.func; body = written s.arguments args; timeout = s.timeout }
 
 abbrev pub response_with : Service → ℕ → Reply → Response
 response_with s id (sum n) = record { id = id; ret = pos 0; body = written s.reply (Num n ∷ []) }
 response_with s id (code n) = record { id = id; ret = n; body = [] }
 
-abbrev pub response_of : Service → CallSpec → ℕ → Response
-response_of s spec id = response_with s id (reply_to s spec.args)
+abbrev pub response_of : Service → List Value → ℕ → Response
+response_of s args id = response_with s id (reply_to s args)
 
 -- What the code relies on of a service and of a call.
 
@@ -110,8 +109,8 @@ pub record AreTwoInts (args : List Value) : Type 0 where
   pub first_int : IsInt first
   pub second_int : IsInt second
 
--- a packet is the request of this call under this id
-pub record Asks (s : Service) (spec : CallSpec) (id : ℕ) (packet : List ℕ) : Type 0 where
-  pub ints : AreTwoInts spec.args
+-- a packet is the request of a call with these arguments under this id
+pub record Asks (s : Service) (args : List Value) (id : ℕ) (packet : List ℕ) : Type 0 where
+  pub ints : AreTwoInts args
   pub small : id < 2 ^ 31
-  pub bytes : packet ≡ request_frame (request_of s spec id)
+  pub bytes : packet ≡ request_frame (request_of s args id)

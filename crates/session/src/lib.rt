@@ -5,6 +5,7 @@ mod bodies;
 mod link_log;
 mod loaded;
 mod pending;
+mod plan;
 mod report;
 mod rpc_packet;
 mod servant_core;

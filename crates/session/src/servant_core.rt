@@ -1,7 +1,6 @@
 //! The servant: what it replies to a call's arguments, and the response that carries it.
 
 ghost use Rattle.std.specs.Prelude.{◌≡◌, ◌<◌, ◌≤◌, ◌^◌, ℕ, ℤ, pos, ◌+ℤ◌, List as Listed, IfOk};
-ghost use Rattle.session.specs.declared.loaded.CallSpec.{CallSpec as Spec};
 ghost use Rattle.session.specs.Sessions.{IsInt};
 ghost use Rattle.tars_model.specs.declared.value.Value.{Value as AValue};
 ghost use Rattle.tars_codec.specs.Written.{written};
@@ -76,9 +75,9 @@ fn sum_of(service: &Service, args: &[Value]) -> i64
 /// The frame that answers the packet of a request.
 pub(crate) fn answer(alloc: Global, service: &Service, packet: &[u8]) -> Result<Bytes8, AllocError>
     requires service { IsService service.now }
-    requires written { (spec : Spec) × (id : ℕ) × Asks service.now spec id packet.now }
-    ensures { (spec : Spec) (id : ℕ) → Asks service.now spec id packet.now
-        → IfOk result (λ frame. frame ≡ response_frame (response_of service.now spec id)) }
+    requires written { (args : Listed AValue) × (id : ℕ) × Asks service.now args id packet.now }
+    ensures { (args : Listed AValue) (id : ℕ) → Asks service.now args id packet.now
+        → IfOk result (λ frame. frame ≡ response_frame (response_of service.now args id)) }
 {
     let request = read_request(alloc, service.request.as_slice(), packet)?;
     let args = read_args(alloc, service, request.body.as_slice())?;

@@ -4,6 +4,7 @@ ghost use Rattle.std.specs.Prelude.{◌≡◌, false, true, take, drop, length, 
 ghost use Rattle.wire_words.specs.Packets.{first_length, has_packet, packets_of};
 
 use std::alloc::{AllocError, Global};
+use std::collections::VecDeque;
 use tars_model::Bytes8;
 
 /// The shortest packet: a length and one byte.
@@ -26,13 +27,13 @@ fn first_packet(stream: &[u8]) -> Option<(&[u8], &[u8])>
 }
 
 /// The whole packets of a stream.
-pub(crate) fn whole_packets(alloc: Global, stream: &[u8]) -> Result<Vec<Bytes8>, AllocError>
+pub(crate) fn whole_packets(alloc: Global, stream: &[u8]) -> Result<VecDeque<Bytes8>, AllocError>
     ensures { IfOk result (λ packets. packets.items ≡ packets_of stream.now) }
 {
-    let mut packets = Vec::new(alloc);
+    let mut packets = VecDeque::new(alloc);
     let mut rest = stream;
     while let Some((packet, behind)) = first_packet(rest) {
-        packets.push(Bytes8::from_slice(alloc, packet)?)?;
+        packets.push_back(Bytes8::from_slice(alloc, packet)?)?;
         rest = behind;
     }
     Ok(packets)

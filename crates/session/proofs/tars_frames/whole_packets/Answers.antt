@@ -22,7 +22,7 @@ loop-packet-smaller c = shorter c.loop-packet.rest.now c.in-Some.packet.now c.in
 
 pub loop-packet-preserved : goal.loop-packet-preserved
 loop-packet-preserved c =
-    rw c.in_ok-push.ensures.items (rw c.in_ok-from_slice.ensures
+    rw c.in_ok-push_back.ensures.items (rw c.in_ok-from_slice.ensures
     (one_more c.loop-packet.packets.items _ c.loop-packet.rest.now c.in-Some.packet.now c.in-Some.behind.now c.in-Some.ensures c.loop-packet.invariant))
 
 pub returns : goal.returns

@@ -1,0 +1,36 @@
+use Rattle.std.proofs.Common.{◌≡◌, ◌<◌, ℕ, zero, suc, true, List, [], ◌∷◌, ◌++◌, Some, length, take, drop, refl, sym, ap, ◌∙◌, arith, drop-cons}
+use Rattle.std.proofs.Math.ListN.{set, get_or}
+use Rattle.std.specs.List.{list_any}
+use Rattle.session.specs.declared.pending.Pending.{Pending}
+use Rattle.session.specs.declared.report.End.{End}
+use Rattle.session.specs.Courses.{is_open_under, settle}
+use Rattle.session.specs.Tracks.{IsOpenAt}
+use Rattle.session.proofs.plan.desk.open_place.Goals as goal
+
+-- a list with another element at a place
+set_split : {A : Type 0} (k : ℕ) (xs : List A) (y : A) → k < length xs → take k xs ++ y ∷ drop (suc k) xs ≡ set xs k y
+set_split zero [] y h = absurd (omega arith)
+set_split zero (x ∷ xs) y h = refl
+set_split (suc k) [] y h = absurd (omega arith)
+set_split (suc k) (x ∷ xs) y h = ap (λ zs. x ∷ zs) (set_split k xs y (omega arith))
+
+same_head : {A : Type 0} {x y : A} {xs ys : List A} → x ∷ xs ≡ y ∷ ys → x ≡ y
+same_head e = cc
+
+open_at : (id : ℕ) (calls : List Pending) (k : ℕ) (x : Pending) → k < length calls → x ≡ get_or calls k x → true ≡ is_open_under id x
+    → ((end : End) → settle id end calls ≡ take k calls ++ settle id end (drop k calls))
+    → list_any (is_open_under id) calls ≡ list_any (is_open_under id) (drop k calls)
+    → IsOpenAt id calls k
+open_at id calls k x within here is_open before none =
+    let split : drop k calls ≡ x ∷ drop (suc k) calls = drop-cons calls k x within ∙ ap (λ y. y ∷ drop (suc k) calls) (sym here) in
+    record {
+      within = within;
+      found = none ∙ rw (split, ← is_open) refl;
+      settled = λ end call is.
+          let same : call ≡ x = is ∙ same_head (sym (drop-cons calls k call within) ∙ split) in
+          before end ∙ rw (split, ← is_open, same) (set_split k calls (record x { end = Some end }) within);
+    }
+
+pub returns-then-is_open_under : goal.returns-then-is_open_under
+returns-then-is_open_under c =
+    open_at c.args.id c.args.calls.now c.loop-k.k c.index-calls-k.result c.loop-k-test.true c.index-calls-k.is c.if-is_open_under.ensures c.loop-k.invariant.0 c.loop-k.invariant.1

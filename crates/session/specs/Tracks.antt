@@ -1,0 +1,93 @@
+-- How what the plan keeps is tied to what has happened.
+use Rattle.std.specs.Prelude.{◌≡◌, ◌<◌, ◌≤◌, ◌^◌, ◌+◌, ◌++◌, [], ◌∷◌, ℕ, Some, List, length, take, drop, map, fold, true, slice_index_or, slice_set}
+use Rattle.std.specs.List.{AllByRecursion, list_any}
+use Rattle.session.specs.declared.report.End.{End}
+use Rattle.session.specs.declared.loaded.Event.{Event}
+use Rattle.session.specs.declared.link_log.GotFate.{GotFate}
+use Rattle.session.specs.declared.link_log.GotRow.{GotRow}
+use Rattle.session.specs.declared.pending.Pending.{Pending}
+use Rattle.session.specs.declared.plan.Plan.{Plan}
+use Rattle.session.specs.declared.service.Service.{Service}
+use Rattle.session.specs.Courses.{WIDTH, is_open_under, settle, outcome, fate_of, Course, Opened, opened, sent_frame, answer_frame, joined, step, after_all}
+use Rattle.session.specs.Planned.{sent_row, got_rows}
+use Rattle.session.specs.Services.{IsService, AreTwoInts, reply_to}
+
+-- the frames of the requests that were sent, and of the answers to them
+abbrev pub request_frames : Service → Course → List (List ℕ)
+request_frames s c = map (sent_frame s) (opened c)
+
+abbrev pub answer_frames : Service → Course → List (List ℕ)
+answer_frames s c = map (answer_frame s) (opened c)
+
+-- what a call that was sent is like
+pub record IsOpened (o : Opened) : Type 0 where
+  pub ints : AreTwoInts o.args
+  pub small : o.id < 2 ^ 31
+
+-- what has happened in the script so far
+abbrev pub course_of : Plan → Course
+course_of p = after_all p.service (take p.done p.events.now)
+
+-- The plan keeps what this course says. Bytes are read in whole frames: the node has read so many of
+-- the requests, the caller so many of the answers.
+pub record Tracks (p : Plan) (c : Course) : Type 0 where
+  pub service : IsService p.service
+  pub each : AllByRecursion IsOpened (opened c)
+  pub few : length (opened c) ≤ WIDTH
+  pub requests : ℕ
+  pub answers : ℕ
+  pub requests_within : requests ≤ length (opened c)
+  pub answered_within : c.answered ≤ requests
+  pub answers_within : answers ≤ c.answered
+  pub served_is : c.served ≡ length (joined (take requests (request_frames p.service c)))
+  pub delivered_is : c.delivered ≡ length (joined (take answers (answer_frames p.service c)))
+  pub fates_are : length c.fates ≡ answers
+  pub calls_are : p.calls.items ≡ c.calls
+  pub args_are : length c.args ≡ length c.calls
+  pub sent_is : p.sent.items ≡ map (sent_row p.service) (opened c)
+  pub closed_is : p.closed ≡ c.closed
+  pub to_node_is : p.to_node.items ≡ joined (drop requests (request_frames p.service c))
+  pub queue_is : p.queue.items ≡ drop c.answered (take requests (request_frames p.service c))
+  pub to_caller_is : p.to_caller.items ≡ joined (drop answers (take c.answered (answer_frames p.service c)))
+  pub got_is : p.got.items ≡ got_rows (take answers (answer_frames p.service c)) c.fates
+
+-- what an event leaves as it was
+pub record IsSameScript (old new : Plan) : Type 0 where
+  pub service_is : new.service ≡ old.service
+  pub events_are : new.events.now ≡ old.events.now
+  pub done_is : new.done ≡ old.done
+
+-- after an event the plan keeps what the course says then
+pub record Follows (old new : Plan) (event : Event) : Type 0 where
+  pub same : IsSameScript old new
+  pub tracks : Tracks new (step old.service (course_of old) event)
+
+-- The caller takes in the answer to a call: the calls and the rows of what it got, before and after.
+pub record Desk : Type 0 where
+  pub calls : List Pending
+  pub got : List GotRow
+
+abbrev pub come : Service → Desk → Opened → Desk
+come s d o =
+    record {
+      calls = settle o.id (outcome (length d.got + 1) (reply_to s o.args)) d.calls;
+      got = d.got ++ record { packet = answer_frame s o; fate = fate_of o.id d.calls } ∷ [];
+    }
+
+pub record TakeIn (s : Service) (os : List Opened) (calls : List Pending) (got : List GotRow) (new_calls : List Pending) (new_got : List GotRow) : Type 0 where
+  pub after : record { calls = new_calls; got = new_got } ≡ fold (come s) (record { calls = calls; got = got }) os
+
+-- a reply settles its call
+pub record Settles (s : Service) (o : Opened) (packet : ℕ) (old new : List Pending) (fate : GotFate) : Type 0 where
+  pub calls_are : new ≡ settle o.id (outcome packet (reply_to s o.args)) old
+  pub fate_is : fate ≡ fate_of o.id old
+
+abbrev pub TakesIn : Service → Opened → List Pending → List GotRow → List Pending → List GotRow → Type 0
+TakesIn s o calls got new_calls new_got =
+    (new_calls ≡ (come s (record { calls = calls; got = got }) o).calls) × (new_got ≡ (come s (record { calls = calls; got = got }) o).got)
+
+-- the call at this place is the one that is settled
+pub record IsOpenAt (id : ℕ) (calls : List Pending) (k : ℕ) : Type 0 where
+  pub within : k < length calls
+  pub found : list_any (is_open_under id) calls ≡ true
+  pub settled : (end : End) (call : Pending) → call ≡ slice_index_or calls k call → settle id end calls ≡ slice_set calls k (record call { end = Some end })

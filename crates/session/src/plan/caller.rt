@@ -1,0 +1,40 @@
+//! The caller's side of a plan.
+
+ghost use Rattle.std.specs.Prelude.{OnOk};
+ghost use Rattle.session.specs.declared.loaded.Event.TheVariants.{Deliver, Close};
+ghost use Rattle.session.specs.Tracks.{Tracks, Follows, course_of};
+
+use super::Plan;
+use super::desk::take_all_in;
+use crate::pending::close_all;
+use crate::tars_frames::whole_packets;
+use std::alloc::{AllocError, Global};
+use std::mem;
+
+impl Plan<'_> {
+    /// The caller reads all that waits, and takes in each answer in it.
+    pub fn deliver(&mut self, alloc: Global) -> Result<(), AllocError>
+        requires { Tracks self.old (course_of self.old) }
+        ensures { OnOk result (Follows self.old self.new Deliver) }
+    {
+        let bytes = mem::replace(&mut self.to_caller, Vec::new(alloc));
+        let packets = whole_packets(alloc, bytes.as_slice())?;
+        take_all_in(
+            alloc,
+            &self.service,
+            &mut self.calls,
+            &mut self.got,
+            packets,
+        )?;
+        Ok(())
+    }
+
+    /// The session is closed: each open call ends.
+    pub fn close(&mut self)
+        requires { Tracks self.old (course_of self.old) }
+        ensures { Follows self.old self.new Close }
+    {
+        close_all(&mut self.calls);
+        self.closed = true;
+    }
+}
