@@ -1,1 +1,3 @@
+pub mod WireType
 pub mod Written
+pub mod Reading

@@ -2,8 +2,11 @@
 //! `specs/Written.antt` states, and `decode` gives the values that were written.
 #![tactic(auto)]
 
+mod head;
+mod read_error;
 mod reading;
 mod refuse;
+mod wire_type;
 mod writing;
 
 pub use reading::decode;
