@@ -1,0 +1,53 @@
+-- One level of a value: what stands for it, and that it is the value's.
+use Rattle.std.proofs.Common.{◌≡◌, ℕ, ◌^◌, ◌<◌, List, length, map, refl, sym, ap, ◌∙◌}
+use Rattle.tars_model.specs.declared.value.Value.{Value, out-Value, map-Value, fold-Value, fold_out-Value, roll-Value, roll-out-Value, Num, Text, Blob, Map}
+use Rattle.tars_model.specs.declared.value.Value.TheVariants.{rolls-Num, rolls-Text, rolls-Blob, rolls-Map}
+use Rattle.tars_model.specs.declared.value.Value.TheOpen as value
+use Rattle.tars_model.specs.declared.value.Pair.{Pair, out-Pair, fold-Pair, fold_out-Pair, roll-Pair, roll-out-Pair}
+use Rattle.tars_model.specs.Fits.{ValueLayer, IsTextOf}
+use Rattle.wire_words.specs.Tree.{WireValue, WirePairs}
+use Rattle.tars_codec.specs.Written.{wire_layer, wire_pair, wire_value, wire_text}
+
+-- what stands for an entry of a map
+abbrev pub wire_pair_of : Pair → WireValue × WireValue
+wire_pair_of p = fold-Pair WireValue (WireValue × WireValue) wire_layer wire_pair p
+
+-- what stands for a value, by its level
+abbrev pub wire_of_layer : ValueLayer → WireValue
+wire_of_layer l = wire_layer (map-Value Value Pair WireValue (WireValue × WireValue) wire_value wire_pair_of l)
+
+pub wire_value-out : (v : Value) → wire_value v ≡ wire_of_layer (out-Value v)
+unfolding wire_value
+wire_value-out v = fold_out-Value WireValue (WireValue × WireValue) wire_layer wire_pair v
+
+pub wire_pair_of-out : (p : Pair) → wire_pair_of p ≡ (wire_value (out-Pair p).key, wire_value (out-Pair p).value)
+unfolding wire_value
+wire_pair_of-out p = fold_out-Pair WireValue (WireValue × WireValue) wire_layer wire_pair p
+
+-- a value of a level
+pub wire_value_at : (v : Value) (l : ValueLayer) → out-Value v ≡ l → wire_value v ≡ wire_of_layer l
+wire_value_at v l e = wire_value-out v ∙ ap wire_of_layer e
+
+pub value_of_layer : (v : Value) (l : ValueLayer) → out-Value v ≡ l → v ≡ roll-Value l
+value_of_layer v l e = sym (roll-out-Value v) ∙ ap roll-Value e
+
+text_layer : (l : ValueLayer) (text : List ℕ) → IsTextOf l text → (l ≡ value.Text text) × (length text < 2 ^ 32)
+text_layer (value.Num n) text h = absurd h
+text_layer (value.Text bytes) text h = (ap value.Text h.0, h.1)
+text_layer (value.Blob bytes) text h = absurd h
+text_layer (value.Map pairs) text h = absurd h
+
+-- a value that is a text
+pub record IsTextValue (v : Value) (text : List ℕ) : Type 0 where
+  pub stands : wire_value v ≡ wire_text text
+  pub same : v ≡ Text text
+  pub short : length text < 2 ^ 32
+
+pub text_value : (v : Value) (text : List ℕ) → IsTextOf (out-Value v) text → IsTextValue v text
+text_value v text h =
+    let l = text_layer (out-Value v) text h in
+    record {
+      stands = wire_value_at v (value.Text text) l.0;
+      same = value_of_layer v (value.Text text) l.0 ∙ rolls-Text text;
+      short = l.1;
+    }
