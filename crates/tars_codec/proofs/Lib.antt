@@ -5,3 +5,4 @@ pub mod Contents
 pub mod Layers
 pub mod Maps
 pub mod Values
+pub mod Loops

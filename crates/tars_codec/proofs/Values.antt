@@ -4,6 +4,7 @@ use Rattle.std.specs.Prelude.{FitsSigned}
 use Rattle.std.specs.Int.{w64}
 use Rattle.std.proofs.lemmas.List.{append-nil}
 use Rattle.std.proofs.lemmas.Int.{ints}
+use Rattle.std.proofs.lemmas.Option.{none-some, same_Some}
 use Rattle.tars_model.specs.declared.ty.Ty.{out-Ty}
 use Rattle.tars_model.specs.declared.ty.Ty.TheOpen as ty
 use Rattle.tars_model.specs.declared.value.Value.{Value, Num, Text, Blob, Map, out-Value, roll-Value}
@@ -13,9 +14,11 @@ use Rattle.tars_model.specs.declared.member.Member.{Member}
 use Rattle.tars_model.specs.Fits.{TyLayer, ValueLayer, FitsLayer, FitMembers}
 use Rattle.wire_words.specs.Spelling.{spelled, spelled_fields, shortest}
 use Rattle.wire_words.specs.Tree.{whole, simple_list, map as wire_map}
+use Rattle.tars_codec.specs.declared.read_error.ReadError.{ReadError}
+use Rattle.tars_codec.specs.declared.read_error.ReadError.TheVariants.{Malformed}
 use Rattle.tars_codec.specs.declared.wire_type.WireType.{WireType}
 use Rattle.tars_codec.specs.Written.{wire_value, wire_text, wire_pairs, fields_of, written}
-use Rattle.tars_codec.specs.Reading.{◌>>=◌, made, number_at, text_at, blob_at, map_at, value_at, member_at, values_at, body_at}
+use Rattle.tars_codec.specs.Reading.{◌>>=◌, Fails, made, number_at, text_at, blob_at, map_at, value_at, member_at, values_at, body_at}
 use Rattle.tars_codec.proofs.Fields.{Stands, field_stands, number_stands}
 use Rattle.tars_codec.proofs.Contents.{text_stands, blob_stands}
 use Rattle.tars_codec.proofs.Layers.{wire_of_layer, wire_value_at, value_of_layer, wire_pair_of}
@@ -80,3 +83,15 @@ body_again ms vs fit =
     let bytes = spelled_fields (fields_of ms vs) in
     let read : values_at ms bytes ≡ Some (vs, []) = ap (values_at ms) (sym (append-nil bytes)) ∙ values_again ms vs [] fit in
     rw read refl
+
+-- a body that is spelled is read, and as its values alone
+pub body_is_read : (ms : List Member) (vs : List Value) (bytes : List ℕ) → FitMembers ms vs → bytes ≡ written ms vs → body_at ms bytes ≡ Some vs
+body_is_read ms vs bytes fit is = ap (body_at ms) is ∙ body_again ms vs fit
+
+pub body_is_not_refused : (e : ReadError) (ms : List Member) (vs : List Value) (bytes : List ℕ) → e ≡ Malformed → Fails e (body_at ms bytes) → FitMembers ms vs → bytes ≡ written ms vs → ⊥
+body_is_not_refused e ms vs bytes malformed fails fit is =
+    let none : body_at ms bytes ≡ None = rw malformed at fails in
+    none-some vs (sym none ∙ body_is_read ms vs bytes fit is)
+
+pub body_values : (ms : List Member) (read vs : List Value) (bytes : List ℕ) → body_at ms bytes ≡ Some read → FitMembers ms vs → bytes ≡ written ms vs → read ≡ vs
+body_values ms read vs bytes some fit is = same_Some read vs (sym some ∙ body_is_read ms vs bytes fit is)
