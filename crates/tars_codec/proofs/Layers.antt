@@ -6,23 +6,19 @@ use Rattle.tars_model.specs.declared.value.Value.TheOpen as value
 use Rattle.tars_model.specs.declared.value.Pair.{Pair, out-Pair, fold-Pair, fold_out-Pair, roll-Pair, roll-out-Pair}
 use Rattle.tars_model.specs.Fits.{ValueLayer, IsTextOf}
 use Rattle.wire_words.specs.Tree.{WireValue, WirePairs}
-use Rattle.tars_codec.specs.Written.{wire_layer, wire_pair, wire_value, wire_text}
-
--- what stands for an entry of a map
-abbrev pub wire_pair_of : Pair → WireValue × WireValue
-wire_pair_of p = fold-Pair WireValue (WireValue × WireValue) wire_layer wire_pair p
+use Rattle.tars_codec.specs.Written.{wire_layer, wire_pair, wire_value, wire_entry, wire_text}
 
 -- what stands for a value, by its level
 abbrev pub wire_of_layer : ValueLayer → WireValue
-wire_of_layer l = wire_layer (map-Value Value Pair WireValue (WireValue × WireValue) wire_value wire_pair_of l)
+wire_of_layer l = wire_layer (map-Value Value Pair WireValue (WireValue × WireValue) wire_value wire_entry l)
 
 pub wire_value-out : (v : Value) → wire_value v ≡ wire_of_layer (out-Value v)
-unfolding wire_value
+unfolding wire_value wire_entry
 wire_value-out v = fold_out-Value WireValue (WireValue × WireValue) wire_layer wire_pair v
 
-pub wire_pair_of-out : (p : Pair) → wire_pair_of p ≡ (wire_value (out-Pair p).key, wire_value (out-Pair p).value)
-unfolding wire_value
-wire_pair_of-out p = fold_out-Pair WireValue (WireValue × WireValue) wire_layer wire_pair p
+pub wire_entry-out : (p : Pair) → wire_entry p ≡ (wire_value (out-Pair p).key, wire_value (out-Pair p).value)
+unfolding wire_value wire_entry
+wire_entry-out p = fold_out-Pair WireValue (WireValue × WireValue) wire_layer wire_pair p
 
 -- a value of a level
 pub wire_value_at : (v : Value) (l : ValueLayer) → out-Value v ≡ l → wire_value v ≡ wire_of_layer l

@@ -6,3 +6,4 @@ pub mod Layers
 pub mod Maps
 pub mod Values
 pub mod Loops
+pub mod Shortest

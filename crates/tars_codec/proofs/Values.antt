@@ -17,11 +17,11 @@ use Rattle.wire_words.specs.Tree.{whole, simple_list, map as wire_map}
 use Rattle.tars_codec.specs.declared.read_error.ReadError.{ReadError}
 use Rattle.tars_codec.specs.declared.read_error.ReadError.TheVariants.{Malformed}
 use Rattle.tars_codec.specs.declared.wire_type.WireType.{WireType}
-use Rattle.tars_codec.specs.Written.{wire_value, wire_text, wire_pairs, fields_of, written}
+use Rattle.tars_codec.specs.Written.{wire_value, wire_entry, wire_text, wire_pairs, fields_of, written}
 use Rattle.tars_codec.specs.Reading.{◌>>=◌, Fails, made, number_at, text_at, blob_at, map_at, value_at, member_at, values_at, body_at}
 use Rattle.tars_codec.proofs.Fields.{Stands, field_stands, number_stands}
 use Rattle.tars_codec.proofs.Contents.{text_stands, blob_stands}
-use Rattle.tars_codec.proofs.Layers.{wire_of_layer, wire_value_at, value_of_layer, wire_pair_of}
+use Rattle.tars_codec.proofs.Layers.{wire_of_layer, wire_value_at, value_of_layer}
 use Rattle.tars_codec.proofs.Maps.{map_stands}
 
 -- a value is made of what the reader takes
@@ -54,7 +54,7 @@ layer_stands ty.Text (value.Text bytes) fits =
 layer_stands (ty.Vector of) (value.Blob bytes) fits =
     rw (rolls-Blob bytes) (Stands-made blob_at (λ tag. spelled tag (simple_list bytes)) Blob bytes (blob_stands bytes fits.1))
 layer_stands (ty.Map of to) (value.Map pairs) fits =
-    rw (rolls-Map pairs) (Stands-made map_at (λ tag. spelled tag (wire_map (wire_pairs (map wire_pair_of pairs)))) Map pairs (map_stands pairs fits.2.1.0 fits.2.0 fits.2.1.1))
+    rw (rolls-Map pairs) (Stands-made map_at (λ tag. spelled tag (wire_map (wire_pairs (map wire_entry pairs)))) Map pairs (map_stands pairs fits.2.1.0 fits.2.0 fits.2.1.1))
 layer_stands _ _ fits = absurd fits
 
 value_stands_at : (t : TyLayer) (v : Value) (l : ValueLayer) → out-Value v ≡ l → FitsLayer t l → Stands (value_at t) (λ tag. spelled tag (wire_value v)) v

@@ -1,4 +1,4 @@
-ghost use Rattle.std.specs.Prelude.{◌≡◌};
+ghost use Rattle.std.specs.Prelude.{◌≡◌, ◌<◌};
 ghost use Rattle.tars_codec.specs.WireType.{code_of, type_of};
 
 /// How the contents of a field are spelled: the low four bits of its head (docs/PROTOCOL.md,
@@ -18,7 +18,8 @@ pub enum WireType {
 
 impl WireType {
     pub fn code(self) -> u8
-        ensures { result ≡ code_of self }
+        ensures value { result ≡ code_of self }
+        ensures below { result < 16 }
     {
         self as u8
     }

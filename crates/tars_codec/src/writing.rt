@@ -2,6 +2,8 @@ ghost use Rattle.std.specs.Prelude.{◌≡◌, ◌++◌, OnOk};
 ghost use Rattle.tars_model.specs.Fits.{FitMembers, HaveRisingTags};
 ghost use Rattle.tars_codec.specs.Written.{written};
 
+mod fields;
+
 use bytes::BytesMut;
 use std::alloc::{AllocError, Global};
 use tars_model::{Member, Schema, Value};
