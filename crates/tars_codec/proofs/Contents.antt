@@ -1,12 +1,12 @@
 -- Texts and simple lists that were written are read again.
-use Rattle.std.proofs.Common.{◌≡◌, ℕ, suc, ◌+◌, ◌^◌, ◌<◌, ◌≤◌, Bool, true, false, ltb, List, [], ◌∷◌, ◌++◌, length, Option, Some, None, refl, sym, ap, ◌∙◌, append_assoc, arith}
+use Rattle.std.proofs.Common.{◌≡◌, ℕ, ◌^◌, ◌<◌, List, [], ◌∷◌, ◌++◌, length, Some, refl, ap, ◌∙◌, append_assoc, arith}
 use Rattle.std.specs.Int.{w8, w32, to_be_bytes}
-use Rattle.std.proofs.lemmas.Bool.{cond_both, leb-true}
-use Rattle.wire_words.specs.Tree.{WireValue, string1, string4, simple_list}
+use Rattle.std.proofs.lemmas.Bool.{cond_both}
+use Rattle.wire_words.specs.Tree.{string1, string4, simple_list}
 use Rattle.wire_words.specs.Spelling.{head, spelled_size, spelled}
 use Rattle.tars_codec.specs.declared.wire_type.WireType.TheVariants.{Int1, String1, String4, SimpleList}
 use Rattle.tars_codec.specs.Written.{wire_text}
-use Rattle.tars_codec.specs.Reading.{◌>>=◌, bytes_at, unsigned_at, text_at, elements_at, blob_at}
+use Rattle.tars_codec.specs.Reading.{unsigned_at, text_at, blob_at}
 use Rattle.tars_codec.proofs.Heads.{field_again}
 use Rattle.tars_codec.proofs.Numbers.{bytes_again, wide32, unsigned_again}
 use Rattle.tars_codec.proofs.Fields.{Stands, size_again}

@@ -1,12 +1,11 @@
 -- The entries of a map that are still to be written.
-use Rattle.std.proofs.Common.{◌≡◌, ℕ, ◌+◌, ◌^◌, ◌<◌, ◌≤◌, List, [], ◌∷◌, ◌++◌, length, get_or, drop, map, refl, sym, ap, subst, ◌∙◌, append_assoc, arith}
+use Rattle.std.proofs.Common.{◌≡◌, ℕ, ◌+◌, ◌<◌, ◌≤◌, List, [], ◌∷◌, ◌++◌, length, get_or, drop, map, refl, sym, ap, subst, ◌∙◌, append_assoc}
 use Rattle.std.proofs.lemmas.List.{drop_more, drop_all, append-nil}
-use Rattle.tars_model.specs.declared.ty.Ty.{Ty, out-Ty, Text}
-use Rattle.tars_model.specs.declared.ty.Ty.TheOpen as ty
+use Rattle.tars_model.specs.declared.ty.Ty.{Ty, Text}
 use Rattle.tars_model.specs.declared.ty.Ty.TheVariants.{outs-Text}
 use Rattle.tars_model.specs.declared.value.Value.{Value, out-Value}
-use Rattle.tars_model.specs.declared.value.Pair.{Pair, out-Pair}
-use Rattle.tars_model.specs.Fits.{FitsLayer, Fits, IsTextOf, AreTextPairs}
+use Rattle.tars_model.specs.declared.value.Pair.{Pair}
+use Rattle.tars_model.specs.Fits.{Fits, IsTextOf, AreTextPairs}
 use Rattle.wire_words.specs.Spelling.{spelled, spelled_pairs}
 use Rattle.tars_codec.specs.Written.{wire_value, wire_entry, wire_pairs}
 use Rattle.tars_codec.proofs.Layers.{wire_entry-out, text_layer}

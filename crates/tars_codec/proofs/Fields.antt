@@ -1,15 +1,15 @@
 -- A field that was written is its head and contents that a reader takes; so the field is read again.
-use Rattle.std.proofs.Common.{◌≡◌, ℕ, suc, ◌+◌, ◌-◌, ◌*◌, ◌^◌, ◌<◌, ◌≤◌, Bool, true, false, cond, eqb, ltb, ℤ, pos, negsuc, ◌≤ℤ◌, List, [], ◌∷◌, ◌++◌, length, Option, Some, None, refl, sym, ap, subst, ◌∙◌, append_assoc, inl, inr, ⊎_elim, arith}
+use Rattle.std.proofs.Common.{◌≡◌, ℕ, ◌^◌, ◌<◌, eqb, ltb, ℤ, pos, negsuc, List, [], ◌++◌, Option, Some, refl, sym, append_assoc, arith}
 use Rattle.std.specs.Prelude.{FitsSigned}
-use Rattle.std.specs.Int.{Width, w8, w16, w32, w64, to_be_bytes, cast_unsigned}
-use Rattle.std.proofs.lemmas.Bool.{cond_both, ltb-true, ltb-false, leb-true, eqb-true}
+use Rattle.std.specs.Int.{w8, w16, w32, w64, cast_unsigned}
+use Rattle.std.proofs.lemmas.Bool.{cond_both, ltb-true, eqb-true}
 use Rattle.std.proofs.lemmas.List.{append-nil}
 use Rattle.wire_words.specs.Tree.{WireNumber, zero_tag, int1, int2, int4, int8}
 use Rattle.wire_words.specs.Spelling.{head, two_complement, fits_bits, shortest, spelled_number, spelled_size}
 use Rattle.tars_codec.specs.declared.wire_type.WireType.{WireType}
-use Rattle.tars_codec.specs.declared.wire_type.WireType.TheVariants.{Int1, Int2, Int4, Int8, String1, String4, Map, ZeroTag, SimpleList}
+use Rattle.tars_codec.specs.declared.wire_type.WireType.TheVariants.{Int1, Int2, Int4, Int8, ZeroTag}
 use Rattle.tars_codec.specs.WireType.{code_of}
-use Rattle.tars_codec.specs.Reading.{◌>>=◌, field_at, number_at, natural, size_at}
+use Rattle.tars_codec.specs.Reading.{◌>>=◌, field_at, number_at, size_at}
 use Rattle.tars_codec.proofs.Heads.{field_again}
 use Rattle.tars_codec.proofs.Numbers.{wide8, wide16, wide32, wide64, signed_again}
 

@@ -1,12 +1,12 @@
 -- One level of a value: what stands for it, and that it is the value's.
-use Rattle.std.proofs.Common.{◌≡◌, ℕ, ◌^◌, ◌<◌, List, ℤ, length, map, refl, sym, ap, ◌∙◌}
+use Rattle.std.proofs.Common.{◌≡◌, ℕ, ◌^◌, ◌<◌, List, ℤ, length, refl, sym, ap, ◌∙◌}
 use Rattle.std.specs.Prelude.{FitsSigned}
 use Rattle.std.specs.Int.{w64, cast_unsigned, cast_signed}
 use Rattle.std.proofs.lemmas.Int.{to_z-of_z}
-use Rattle.tars_model.specs.declared.value.Value.{Value, out-Value, map-Value, fold-Value, fold_out-Value, roll-Value, roll-out-Value, Num, Text, Blob, Map}
+use Rattle.tars_model.specs.declared.value.Value.{Value, out-Value, map-Value, fold_out-Value, roll-Value, roll-out-Value, Num, Text, Blob, Map}
 use Rattle.tars_model.specs.declared.value.Value.TheVariants.{rolls-Text, outs-Num, outs-Text, outs-Blob, outs-Map}
 use Rattle.tars_model.specs.declared.value.Value.TheOpen as value
-use Rattle.tars_model.specs.declared.value.Pair.{Pair, out-Pair, fold-Pair, fold_out-Pair, roll-Pair, roll-out-Pair}
+use Rattle.tars_model.specs.declared.value.Pair.{Pair, out-Pair, fold_out-Pair}
 use Rattle.tars_model.specs.Fits.{ValueLayer, IsTextOf}
 use Rattle.wire_words.specs.Tree.{WireValue, simple_list}
 use Rattle.wire_words.specs.Spelling.{shortest, spelled_number, spelled}

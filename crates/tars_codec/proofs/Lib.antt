@@ -8,3 +8,4 @@ pub mod Maps
 pub mod Values
 pub mod Loops
 pub mod Entries
+pub mod Members

@@ -1,16 +1,16 @@
 -- A map of texts that was written is read again.
-use Rattle.std.proofs.Common.{◌≡◌, ℕ, suc, ◌+◌, ◌^◌, ◌<◌, List, [], ◌∷◌, ◌++◌, length, map, Option, Some, None, refl, sym, ap, ◌∙◌, append_assoc, arith}
-use Rattle.tars_model.specs.declared.value.Value.{Value, Text, out-Value}
+use Rattle.std.proofs.Common.{◌≡◌, ℕ, suc, ◌^◌, ◌<◌, List, [], ◌∷◌, ◌++◌, length, map, Some, refl, ap, ◌∙◌, append_assoc, arith}
+use Rattle.tars_model.specs.declared.value.Value.{Text, out-Value}
 use Rattle.tars_model.specs.declared.value.Pair.{Pair, out-Pair, roll-Pair, roll-out-Pair}
 use Rattle.tars_model.specs.Fits.{IsTextOf, AreTextPairs}
-use Rattle.wire_words.specs.Tree.{WireValue, WirePairs, map as wire_map}
+use Rattle.wire_words.specs.Tree.{WireValue, map as wire_map}
 use Rattle.wire_words.specs.Spelling.{head, count_pairs, spelled_size, spelled, spelled_pairs}
 use Rattle.tars_codec.specs.declared.wire_type.WireType.TheVariants.{Map}
-use Rattle.tars_codec.specs.Written.{wire_value, wire_entry, wire_text, wire_pairs}
-use Rattle.tars_codec.specs.Reading.{◌>>=◌, text_at, text_field_at, pair_at, pairs_at, map_at}
+use Rattle.tars_codec.specs.Written.{wire_entry, wire_text, wire_pairs}
+use Rattle.tars_codec.specs.Reading.{text_at, text_field_at, pair_at, pairs_at, map_at}
 use Rattle.tars_codec.proofs.Fields.{Stands, field_stands, size_again}
 use Rattle.tars_codec.proofs.Contents.{text_stands}
-use Rattle.tars_codec.proofs.Layers.{wire_entry-out, IsTextValue, text_value}
+use Rattle.tars_codec.proofs.Layers.{wire_entry-out, text_value}
 
 -- the bytes of an entry
 abbrev pub spelled_pair : WireValue × WireValue → List ℕ
