@@ -31,7 +31,7 @@ string4_stands bytes lt = record {
   contents = to_be_bytes w32 (length bytes) ++ bytes;
   parts = λ tag. append_assoc (head tag 7) (to_be_bytes w32 (length bytes)) bytes;
   again = λ rest. ap (text_at String4) (append_assoc (to_be_bytes w32 (length bytes)) bytes rest)
-      ∙ rw (unsigned_again w32 (2 ^ 32) wide32 (length bytes) (bytes ++ rest) lt) (bytes_again (length bytes) bytes rest refl);
+      ∙ rw (unsigned_again w32 wide32 (length bytes) (bytes ++ rest) lt) (bytes_again (length bytes) bytes rest refl);
 }
 
 pub text_stands : (bytes : List ℕ) → length bytes < 2 ^ 32 → Stands text_at (λ tag. spelled tag (wire_text bytes)) bytes
