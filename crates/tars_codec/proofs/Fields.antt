@@ -1,11 +1,11 @@
 -- A field that was written is its head and contents that a reader takes; so the field is read again.
-use Rattle.std.proofs.Common.{◌≡◌, ℕ, ◌^◌, ◌<◌, eqb, ltb, ℤ, pos, negsuc, List, [], ◌++◌, Option, Some, refl, sym, ◌∙◌, append_assoc, inl, inr, arith}
+use Rattle.std.proofs.Common.{◌≡◌, ℕ, ◌^◌, ◌<◌, ltb, ℤ, pos, List, [], ◌++◌, Option, Some, refl, sym, ◌∙◌, append_assoc, inl, inr, arith}
 use Rattle.std.specs.Prelude.{FitsSigned}
 use Rattle.std.specs.Int.{Width, w8, w16, w32, w64, cast_unsigned}
 use Rattle.std.proofs.lemmas.Bool.{cases_eq, cond_both, ltb-true}
 use Rattle.std.proofs.lemmas.List.{append-nil}
 use Rattle.wire_words.specs.Tree.{WireNumber, zero_tag, int1, int2, int4, int8}
-use Rattle.wire_words.specs.Spelling.{head, two_complement, fits_bits, shortest, spelled_number, spelled_size}
+use Rattle.wire_words.specs.Spelling.{head, two_complement, shortest, spelled_number, spelled_size}
 use Rattle.tars_codec.specs.declared.wire_type.WireType.{WireType}
 use Rattle.tars_codec.specs.declared.wire_type.WireType.TheVariants.{Int1, Int2, Int4, Int8, ZeroTag}
 use Rattle.tars_codec.specs.WireType.{code_of}

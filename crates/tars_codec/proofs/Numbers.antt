@@ -1,5 +1,5 @@
 -- A number that was written is read again, in each width.
-use Rattle.std.proofs.Common.{◌≡◌, ℕ, ◌^◌, ◌<◌, Bool, false, ltb, ℤ, List, ◌++◌, length, Some, refl, arith}
+use Rattle.std.proofs.Common.{◌≡◌, ℕ, ◌^◌, ◌<◌, false, ltb, ℤ, List, ◌++◌, length, Some, refl, arith}
 use Rattle.std.specs.Prelude.{FitsSigned}
 use Rattle.std.specs.Int.{Width, w8, w16, w32, w64, byte_len, from_be_bytes, to_be_bytes, cast_unsigned}
 use Rattle.std.proofs.Math.Facts.{Fits-of_z}
@@ -9,7 +9,7 @@ use Rattle.std.proofs.lemmas.List.{take_at, drop_at, length-append}
 use Rattle.std.proofs.lemmas.Nat.{from_be_bytes-to_be_bytes_2, from_be_bytes-to_be_bytes_4, from_be_bytes-to_be_bytes_8}
 use mir.Val.{bits}
 use Rattle.wire_words.specs.Spelling.{two_complement}
-use Rattle.tars_codec.specs.Reading.{◌>>=◌, bytes_at, unsigned_at, signed_at}
+use Rattle.tars_codec.specs.Reading.{bytes_at, unsigned_at, signed_at}
 
 pub bytes_again : (count : ℕ) (bytes rest : List ℕ) → length bytes ≡ count → bytes_at count (bytes ++ rest) ≡ Some (bytes, rest)
 unfolding bytes_at

@@ -18,15 +18,15 @@ use Rattle.tars_codec.specs.declared.read_error.ReadError.{ReadError}
 use Rattle.tars_codec.specs.declared.read_error.ReadError.TheVariants.{Malformed}
 use Rattle.tars_codec.specs.declared.wire_type.WireType.{WireType}
 use Rattle.tars_codec.specs.Written.{wire_value, wire_entry, wire_text, wire_pairs, fields_of, written}
-use Rattle.tars_codec.specs.Reading.{◌>>=◌, Fails, made, number_at, text_at, blob_at, map_at, value_at, member_at, values_at, body_at}
+use Rattle.tars_codec.specs.Reading.{◌>>=◌, Fails, as_value, number_at, text_at, blob_at, map_at, value_at, member_at, values_at, body_at}
 use Rattle.tars_codec.proofs.Fields.{Stands, field_stands, number_stands}
 use Rattle.tars_codec.proofs.Contents.{text_stands, blob_stands}
 use Rattle.tars_codec.proofs.Layers.{wire_of_layer, wire_value_at, value_of_layer}
 use Rattle.tars_codec.proofs.Maps.{map_stands}
 
--- a value is made of what the reader takes
-Stands-made : {A : Type 0} (reader : WireType → List ℕ → Option (A × List ℕ)) (spelling : ℕ → List ℕ) (make : A → Value) (x : A) → Stands reader spelling x → Stands (λ t bytes. reader t bytes >>= made make) spelling (make x)
-Stands-made reader spelling make x s = record {
+-- what a reader takes, as a value
+Stands-value : {A : Type 0} (reader : WireType → List ℕ → Option (A × List ℕ)) (spelling : ℕ → List ℕ) (make : A → Value) (x : A) → Stands reader spelling x → Stands (λ t bytes. reader t bytes >>= as_value make) spelling (make x)
+Stands-value reader spelling make x s = record {
   wire_type = s.wire_type;
   contents = s.contents;
   parts = s.parts;
@@ -41,8 +41,8 @@ fits_whole limit (negsuc n) small low high = record { sfits = omega (arith, ints
 abbrev IsReadAs : TyLayer → ValueLayer → Type 0
 IsReadAs t l = Stands (value_at t) (λ tag. spelled tag (wire_of_layer l)) (roll-Value l)
 
-num_stands : (n : ℤ) → FitsSigned w64 n → Stands (λ t bytes. number_at t bytes >>= made Num) (λ tag. spelled tag (wire_of_layer (value.Num n))) (roll-Value (value.Num n))
-num_stands n fits = rw (rolls-Num n) (Stands-made number_at (λ tag. spelled tag (whole (shortest n))) Num n (number_stands n fits))
+num_stands : (n : ℤ) → FitsSigned w64 n → Stands (λ t bytes. number_at t bytes >>= as_value Num) (λ tag. spelled tag (wire_of_layer (value.Num n))) (roll-Value (value.Num n))
+num_stands n fits = rw (rolls-Num n) (Stands-value number_at (λ tag. spelled tag (whole (shortest n))) Num n (number_stands n fits))
 
 layer_stands : (t : TyLayer) (l : ValueLayer) → FitsLayer t l → IsReadAs t l
 unfolding value_at
@@ -50,11 +50,11 @@ layer_stands ty.Byte (value.Num n) fits = num_stands n (fits_whole 127 n (omega 
 layer_stands ty.Short (value.Num n) fits = num_stands n (fits_whole 32767 n (omega arith) fits.0 fits.1)
 layer_stands ty.Int (value.Num n) fits = num_stands n (fits_whole 2147483647 n (omega arith) fits.0 fits.1)
 layer_stands ty.Text (value.Text bytes) fits =
-    rw (rolls-Text bytes) (Stands-made text_at (λ tag. spelled tag (wire_text bytes)) Text bytes (text_stands bytes fits))
+    rw (rolls-Text bytes) (Stands-value text_at (λ tag. spelled tag (wire_text bytes)) Text bytes (text_stands bytes fits))
 layer_stands (ty.Vector of) (value.Blob bytes) fits =
-    rw (rolls-Blob bytes) (Stands-made blob_at (λ tag. spelled tag (simple_list bytes)) Blob bytes (blob_stands bytes fits.1))
+    rw (rolls-Blob bytes) (Stands-value blob_at (λ tag. spelled tag (simple_list bytes)) Blob bytes (blob_stands bytes fits.1))
 layer_stands (ty.Map of to) (value.Map pairs) fits =
-    rw (rolls-Map pairs) (Stands-made map_at (λ tag. spelled tag (wire_map (wire_pairs (map wire_entry pairs)))) Map pairs (map_stands pairs fits.2.1.0 fits.2.0 fits.2.1.1))
+    rw (rolls-Map pairs) (Stands-value map_at (λ tag. spelled tag (wire_map (wire_pairs (map wire_entry pairs)))) Map pairs (map_stands pairs fits.2.1.0 fits.2.0 fits.2.1.1))
 layer_stands _ _ fits = absurd fits
 
 value_stands_at : (t : TyLayer) (v : Value) (l : ValueLayer) → out-Value v ≡ l → FitsLayer t l → Stands (value_at t) (λ tag. spelled tag (wire_value v)) v

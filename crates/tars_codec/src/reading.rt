@@ -5,14 +5,17 @@ ghost use Rattle.tars_codec.specs.Written.{written};
 ghost use Rattle.tars_codec.specs.Reading.{Gives, text_field_at, pair_at, pairs_at, map_at, value_at, member_at, values_at, body_at};
 
 mod fields;
+mod numbers;
 
 use crate::Refuse;
 use crate::read_error::ReadError;
 use crate::wire_type::WireType;
-use fields::{read_blob, read_field, read_number, read_size, read_text};
+use fields::{read_blob, read_field, read_size, read_text};
+use numbers::read_number;
 use std::alloc::Global;
 use tars_model::{Bytes8, List as Listed, Member, Pair, Schema, Ty, Value};
 
+/// A text under a tag.
 #[tactic(auto, unfolding(crate::specs::Reading::text_field_at))]
 fn read_text_field(tag: u8, bytes: &[u8]) -> Result<(&[u8], &[u8]), ReadError>
     ensures { Gives (λ x. (x.0.now, x.1.now)) result (text_field_at tag bytes.now) }
@@ -33,6 +36,7 @@ fn read_pair(alloc: Global, bytes: &[u8]) -> Result<(Pair, &[u8]), ReadError>
     Ok((Pair { key, value }, rest))
 }
 
+/// So many entries.
 fn read_pairs(alloc: Global, count: usize, bytes: &[u8]) -> Result<(Listed<Pair>, &[u8]), ReadError>
     ensures { Gives (λ x. (x.0, x.1.now)) result (pairs_at count bytes.now) }
 {
@@ -92,6 +96,7 @@ fn read_value<'a>(
     }
 }
 
+/// The value of a member, which is the next field.
 #[tactic(auto, unfolding(crate::specs::Reading::member_at))]
 fn read_member<'a>(
     alloc: Global,

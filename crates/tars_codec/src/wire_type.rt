@@ -24,7 +24,7 @@ impl WireType {
         self as u8
     }
 
-    /// The type with a code, if these crates read it.
+    /// None for a code under which no value is spelled.
     #[tactic(auto, unfolding(crate::specs::WireType::type_of))]
     pub fn from_code(code: u8) -> Option<WireType>
         ensures { result ≡ type_of code }

@@ -5,10 +5,12 @@ ghost use Rattle.wire_words.specs.Spelling.{spelled};
 ghost use Rattle.tars_codec.specs.Written.{wire_value, wire_map, written};
 
 mod fields;
+mod numbers;
 
 use crate::wire_type::WireType;
 use bytes::BytesMut;
-use fields::{put_blob, put_head, put_number, put_size, put_text};
+use fields::{put_blob, put_head, put_size, put_text};
+use numbers::put_number;
 use std::alloc::{AllocError, Global};
 use tars_model::{Member, Pair, Schema, Value};
 

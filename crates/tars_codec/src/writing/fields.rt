@@ -1,9 +1,10 @@
-ghost use Rattle.std.specs.Prelude.{◌≡◌, ◌<◌, ◌^◌, ◌++◌, length, pos, OnOk};
-ghost use Rattle.wire_words.specs.Tree.{int1, int2, int4, int8, simple_list};
-ghost use Rattle.wire_words.specs.Spelling.{head, shortest, spelled_number, spelled_size, spelled};
+ghost use Rattle.std.specs.Prelude.{◌≡◌, ◌<◌, ◌^◌, ◌++◌, length, OnOk};
+ghost use Rattle.wire_words.specs.Tree.{simple_list};
+ghost use Rattle.wire_words.specs.Spelling.{head, spelled_size, spelled};
 ghost use Rattle.tars_codec.specs.WireType.{code_of};
 ghost use Rattle.tars_codec.specs.Written.{wire_text};
 
+use super::numbers::put_number;
 use crate::head::LONG_FORM;
 use crate::wire_type::WireType;
 use bytes::{BufMut, BytesMut};
@@ -18,55 +19,6 @@ pub fn put_head(out: &mut BytesMut, tag: u8, wire_type: WireType) -> Result<(), 
     }
     out.put_u8(LONG_FORM * 16 + wire_type.code())?;
     out.put_u8(tag)
-}
-
-#[tactic(auto, unfolding(wire_words::specs::Spelling::spelled_number, wire_words::specs::Spelling::two_complement))]
-fn put_i8(out: &mut BytesMut, tag: u8, number: i8) -> Result<(), AllocError>
-    ensures { OnOk result (out.new.items ≡ out.old.items ++ spelled_number tag (int1 number)) }
-{
-    put_head(out, tag, WireType::Int1)?;
-    out.put_i8(number)
-}
-
-#[tactic(auto, unfolding(wire_words::specs::Spelling::spelled_number, wire_words::specs::Spelling::two_complement))]
-fn put_i16(out: &mut BytesMut, tag: u8, number: i16) -> Result<(), AllocError>
-    ensures { OnOk result (out.new.items ≡ out.old.items ++ spelled_number tag (int2 number)) }
-{
-    put_head(out, tag, WireType::Int2)?;
-    out.put_i16(number)
-}
-
-#[tactic(auto, unfolding(wire_words::specs::Spelling::spelled_number, wire_words::specs::Spelling::two_complement))]
-fn put_i32(out: &mut BytesMut, tag: u8, number: i32) -> Result<(), AllocError>
-    ensures { OnOk result (out.new.items ≡ out.old.items ++ spelled_number tag (int4 number)) }
-{
-    put_head(out, tag, WireType::Int4)?;
-    out.put_i32(number)
-}
-
-#[tactic(auto, unfolding(wire_words::specs::Spelling::spelled_number, wire_words::specs::Spelling::two_complement))]
-fn put_i64(out: &mut BytesMut, tag: u8, number: i64) -> Result<(), AllocError>
-    ensures { OnOk result (out.new.items ≡ out.old.items ++ spelled_number tag (int8 number)) }
-{
-    put_head(out, tag, WireType::Int8)?;
-    out.put_i64(number)
-}
-
-/// A whole number, of the shortest kind that holds it.
-pub fn put_number(out: &mut BytesMut, tag: u8, number: i64) -> Result<(), AllocError>
-    ensures { OnOk result (out.new.items ≡ out.old.items ++ spelled_number tag (shortest number)) }
-{
-    if number == 0 {
-        put_head(out, tag, WireType::ZeroTag)
-    } else if let Ok(number) = i8::try_from(number) {
-        put_i8(out, tag, number)
-    } else if let Ok(number) = i16::try_from(number) {
-        put_i16(out, tag, number)
-    } else if let Ok(number) = i32::try_from(number) {
-        put_i32(out, tag, number)
-    } else {
-        put_i64(out, tag, number)
-    }
 }
 
 /// The size of a simple list or a map.

@@ -1,6 +1,6 @@
 use Rattle.wire_words.specs.Spelling.{spelled_number}
 use Rattle.tars_codec.proofs.Shortest.{shortest_zero, shortest_int1, shortest_int2, shortest_int4, shortest_int8}
-use Rattle.tars_codec.proofs.writing.fields.put_number.Goals as goal
+use Rattle.tars_codec.proofs.writing.numbers.put_number.Goals as goal
 
 pub returns-then-number-eq0 : goal.returns-then-number-eq0
 unfolding spelled_number
