@@ -1,12 +1,12 @@
 -- Texts and simple lists that were written are read again.
-use Rattle.std.proofs.Common.{◌≡◌, ℕ, suc, ◌+◌, ◌^◌, ◌<◌, ◌≤◌, Bool, true, false, ltb, List, [], ◌∷◌, ◌++◌, length, Option, Some, None, refl, sym, ap, ◌∙◌, append_assoc, arith}
+use Rattle.std.proofs.Common.{◌≡◌, ℕ, ◌^◌, ◌<◌, List, [], ◌∷◌, ◌++◌, length, Some, refl, ap, ◌∙◌, append_assoc, arith}
 use Rattle.std.specs.Int.{w8, w32, to_be_bytes}
-use Rattle.std.proofs.lemmas.Bool.{cond_both, leb-true}
-use Rattle.wire_words.specs.Tree.{WireValue, string1, string4, simple_list}
+use Rattle.std.proofs.lemmas.Bool.{cond_both}
+use Rattle.wire_words.specs.Tree.{string1, string4, simple_list}
 use Rattle.wire_words.specs.Spelling.{head, spelled_size, spelled}
 use Rattle.tars_codec.specs.declared.wire_type.WireType.TheVariants.{Int1, String1, String4, SimpleList}
 use Rattle.tars_codec.specs.Written.{wire_text}
-use Rattle.tars_codec.specs.Reading.{◌>>=◌, bytes_at, unsigned_at, text_at, elements_at, blob_at}
+use Rattle.tars_codec.specs.Reading.{unsigned_at, text_at, blob_at}
 use Rattle.tars_codec.proofs.Heads.{field_again}
 use Rattle.tars_codec.proofs.Numbers.{bytes_again, wide32, unsigned_again}
 use Rattle.tars_codec.proofs.Fields.{Stands, size_again}
@@ -31,7 +31,7 @@ string4_stands bytes lt = record {
   contents = to_be_bytes w32 (length bytes) ++ bytes;
   parts = λ tag. append_assoc (head tag 7) (to_be_bytes w32 (length bytes)) bytes;
   again = λ rest. ap (text_at String4) (append_assoc (to_be_bytes w32 (length bytes)) bytes rest)
-      ∙ rw (unsigned_again w32 (2 ^ 32) wide32 (length bytes) (bytes ++ rest) lt) (bytes_again (length bytes) bytes rest refl);
+      ∙ rw (unsigned_again w32 wide32 (length bytes) (bytes ++ rest) lt) (bytes_again (length bytes) bytes rest refl);
 }
 
 pub text_stands : (bytes : List ℕ) → length bytes < 2 ^ 32 → Stands text_at (λ tag. spelled tag (wire_text bytes)) bytes

@@ -1,17 +1,18 @@
 -- A field that was written is its head and contents that a reader takes; so the field is read again.
-use Rattle.std.proofs.Common.{◌≡◌, ℕ, suc, ◌+◌, ◌-◌, ◌*◌, ◌^◌, ◌<◌, ◌≤◌, Bool, true, false, cond, eqb, ltb, ℤ, pos, negsuc, ◌≤ℤ◌, List, [], ◌∷◌, ◌++◌, length, Option, Some, None, refl, sym, ap, subst, ◌∙◌, append_assoc, inl, inr, ⊎_elim, arith}
+use Rattle.std.proofs.Common.{◌≡◌, ℕ, ◌^◌, ◌<◌, ltb, ℤ, pos, List, [], ◌++◌, Option, Some, refl, sym, ◌∙◌, append_assoc, inl, inr, arith}
 use Rattle.std.specs.Prelude.{FitsSigned}
-use Rattle.std.specs.Int.{Width, w8, w16, w32, w64, to_be_bytes, cast_unsigned}
-use Rattle.std.proofs.lemmas.Bool.{cond_both, ltb-true, ltb-false, leb-true, eqb-true}
+use Rattle.std.specs.Int.{Width, w8, w16, w32, w64, cast_unsigned}
+use Rattle.std.proofs.lemmas.Bool.{cases_eq, cond_both, ltb-true}
 use Rattle.std.proofs.lemmas.List.{append-nil}
 use Rattle.wire_words.specs.Tree.{WireNumber, zero_tag, int1, int2, int4, int8}
-use Rattle.wire_words.specs.Spelling.{head, two_complement, fits_bits, shortest, spelled_number, spelled_size}
+use Rattle.wire_words.specs.Spelling.{head, two_complement, shortest, spelled_number, spelled_size}
 use Rattle.tars_codec.specs.declared.wire_type.WireType.{WireType}
-use Rattle.tars_codec.specs.declared.wire_type.WireType.TheVariants.{Int1, Int2, Int4, Int8, String1, String4, Map, ZeroTag, SimpleList}
+use Rattle.tars_codec.specs.declared.wire_type.WireType.TheVariants.{Int1, Int2, Int4, Int8, ZeroTag}
 use Rattle.tars_codec.specs.WireType.{code_of}
-use Rattle.tars_codec.specs.Reading.{◌>>=◌, field_at, number_at, natural, size_at}
+use Rattle.tars_codec.specs.Reading.{◌>>=◌, signed_at, field_at, number_at, size_at}
 use Rattle.tars_codec.proofs.Heads.{field_again}
-use Rattle.tars_codec.proofs.Numbers.{wide8, wide16, wide32, wide64, signed_again}
+use Rattle.tars_codec.proofs.Numbers.{IsWide, wide8, wide16, wide32, wide64, signed_again}
+use Rattle.tars_codec.proofs.Shortest.{mag, fits_from, kinds, shortest_kinds, is_zero, shortest_zero}
 
 -- under each tag the spelling is a head and contents, which the reader takes for the value
 pub record Stands {A : Type 0} (reader : WireType → List ℕ → Option (A × List ℕ)) (spelling : ℕ → List ℕ) (value : A) : Type 0 where
@@ -39,55 +40,29 @@ zero_stands = record {
   again = λ rest. refl;
 }
 
-int1_stands : (n : ℤ) → FitsSigned w8 n → cast_unsigned w8 n < 2 ^ 8 → IsNumber n (int1 n)
-unfolding number_at spelled_number
-int1_stands n fits below = record {
-  wire_type = Int1;
-  contents = two_complement w8 n;
-  parts = λ tag. refl;
-  again = λ rest. signed_again w8 (2 ^ 8) wide8 n rest fits below;
+-- a number in two's complement
+signed_stands : (w : Width) → IsWide w → (t : WireType) (kind : WireNumber) (n : ℤ) → FitsSigned w n → ((tag : ℕ) → spelled_number tag kind ≡ head tag (code_of t) ++ two_complement w n) → ((bytes : List ℕ) → number_at t bytes ≡ signed_at w bytes) → IsNumber n kind
+signed_stands w wide t kind n fits spelling reads = record {
+  wire_type = t;
+  contents = two_complement w n;
+  parts = spelling;
+  again = λ rest. reads (two_complement w n ++ rest) ∙ signed_again w wide n rest fits;
 }
 
-int2_stands : (n : ℤ) → FitsSigned w16 n → cast_unsigned w16 n < 2 ^ 16 → IsNumber n (int2 n)
+kinds_stand : (n : ℤ) → FitsSigned w64 n → IsNumber n (kinds n)
 unfolding number_at spelled_number
-int2_stands n fits below = record {
-  wire_type = Int2;
-  contents = two_complement w16 n;
-  parts = λ tag. refl;
-  again = λ rest. signed_again w16 (2 ^ 16) wide16 n rest fits below;
-}
-
-int4_stands : (n : ℤ) → FitsSigned w32 n → cast_unsigned w32 n < 2 ^ 32 → IsNumber n (int4 n)
-unfolding number_at spelled_number
-int4_stands n fits below = record {
-  wire_type = Int4;
-  contents = two_complement w32 n;
-  parts = λ tag. refl;
-  again = λ rest. signed_again w32 (2 ^ 32) wide32 n rest fits below;
-}
-
-int8_stands : (n : ℤ) → FitsSigned w64 n → cast_unsigned w64 n < 2 ^ 64 → IsNumber n (int8 n)
-unfolding number_at spelled_number
-int8_stands n fits below = record {
-  wire_type = Int8;
-  contents = two_complement w64 n;
-  parts = λ tag. refl;
-  again = λ rest. signed_again w64 (2 ^ 64) wide64 n rest fits below;
-}
+kinds_stand n fits =
+    cond_both (ltb (mag n) 128) (int1 n) _ (IsNumber n) (λ e. signed_stands w8 wide8 Int1 (int1 n) n (fits_from w8 n (ltb-true (mag n) 128 e)) (λ tag. refl) (λ bytes. refl))
+    (λ _. cond_both (ltb (mag n) 32768) (int2 n) _ (IsNumber n) (λ e. signed_stands w16 wide16 Int2 (int2 n) n (fits_from w16 n (ltb-true (mag n) 32768 e)) (λ tag. refl) (λ bytes. refl))
+    (λ _. cond_both (ltb (mag n) 2147483648) (int4 n) (int8 n) (IsNumber n) (λ e. signed_stands w32 wide32 Int4 (int4 n) n (fits_from w32 n (ltb-true (mag n) 2147483648 e)) (λ tag. refl) (λ bytes. refl))
+    (λ _. signed_stands w64 wide64 Int8 (int8 n) n fits (λ tag. refl) (λ bytes. refl))))
 
 pub number_stands : (n : ℤ) → FitsSigned w64 n → IsNumber n (shortest n)
-unfolding shortest fits_bits
-number_stands (pos n) fits =
-    cond_both (eqb n 0) zero_tag _ (IsNumber (pos n)) (λ e. rw (eqb-true n 0 e) zero_stands)
-    (λ _. cond_both (ltb n 128) (int1 (pos n)) _ (IsNumber (pos n)) (λ e. int1_stands (pos n) (record { sfits = ltb-true n 128 e }) (omega (arith, ltb-true n 128 e)))
-    (λ _. cond_both (ltb n 32768) (int2 (pos n)) _ (IsNumber (pos n)) (λ e. int2_stands (pos n) (record { sfits = ltb-true n 32768 e }) (omega (arith, ltb-true n 32768 e)))
-    (λ _. cond_both (ltb n 2147483648) (int4 (pos n)) (int8 (pos n)) (IsNumber (pos n)) (λ e. int4_stands (pos n) (record { sfits = ltb-true n 2147483648 e }) (omega (arith, ltb-true n 2147483648 e)))
-    (λ _. int8_stands (pos n) fits (omega (arith, fits.sfits))))))
-number_stands (negsuc n) fits =
-    cond_both (ltb n 128) (int1 (negsuc n)) _ (IsNumber (negsuc n)) (λ e. int1_stands (negsuc n) (record { sfits = ltb-true n 128 e }) (omega (arith, ltb-true n 128 e)))
-    (λ _. cond_both (ltb n 32768) (int2 (negsuc n)) _ (IsNumber (negsuc n)) (λ e. int2_stands (negsuc n) (record { sfits = ltb-true n 32768 e }) (omega (arith, ltb-true n 32768 e)))
-    (λ _. cond_both (ltb n 2147483648) (int4 (negsuc n)) (int8 (negsuc n)) (IsNumber (negsuc n)) (λ e. int4_stands (negsuc n) (record { sfits = ltb-true n 2147483648 e }) (omega (arith, ltb-true n 2147483648 e)))
-    (λ _. int8_stands (negsuc n) fits (omega (arith, fits.sfits)))))
+number_stands n fits =
+    elim (cases_eq (cast_unsigned w64 n) 0) [
+      | inl is ↦ rw (shortest_zero n fits is, is_zero n fits is) zero_stands
+      | inr other ↦ rw (shortest_kinds n other) (kinds_stand n fits)
+    ]
 
 pub size_again : (size : ℕ) (rest : List ℕ) → size < 2 ^ 32 → size_at (spelled_size size ++ rest) ≡ Some (size, rest)
 unfolding size_at spelled_size

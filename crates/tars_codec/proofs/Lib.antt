@@ -1,7 +1,11 @@
 pub mod Heads
 pub mod Numbers
+pub mod Shortest
 pub mod Fields
 pub mod Contents
 pub mod Layers
 pub mod Maps
 pub mod Values
+pub mod Loops
+pub mod Entries
+pub mod Members

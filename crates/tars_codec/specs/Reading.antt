@@ -1,6 +1,6 @@
 -- Reading from left to right. A reader gives a value with the bytes behind it, or nothing where the
 -- bytes spell no such value.
-use Rattle.std.specs.Prelude.{◌≡◌, ℕ, zero, suc, ◌*◌, ◌/◌, ◌%◌, ◌==◌, nat_lt, if◌then◌else◌, ℤ, pos, negsuc, Option, Some, None, Result, Ok, Err, List, [], ◌∷◌, length, take, drop}
+use Rattle.std.specs.Prelude.{◌≡◌, ℕ, zero, suc, ◌/◌, ◌%◌, ◌==◌, nat_lt, if◌then◌else◌, ℤ, pos, negsuc, Option, Some, None, Result, Ok, Err, List, [], ◌∷◌, length, take, drop}
 use Rattle.std.specs.Int.{Width, w8, w16, w32, w64, byte_len, from_be_bytes, cast_signed}
 use Rattle.tars_model.specs.declared.ty.Ty.{out-Ty}
 use Rattle.tars_model.specs.declared.ty.Ty.TheOpen as ty
@@ -132,17 +132,18 @@ map_at wire.Map bytes = do
   pairs_at size.0 size.1
 map_at _ bytes = None
 
-abbrev pub made : {A : Type 0} → (A → Value) → A × List ℕ → Option (Value × List ℕ)
-made make read = Some (make read.0, read.1)
+-- what was read, as a value
+abbrev pub as_value : {A : Type 0} → (A → Value) → A × List ℕ → Option (Value × List ℕ)
+as_value make read = Some (make read.0, read.1)
 
 -- the contents of a value of a type
 unfoldable pub value_at : TyLayer → WireType → List ℕ → Option (Value × List ℕ)
-value_at ty.Byte wire_type bytes = number_at wire_type bytes >>= made Num
-value_at ty.Short wire_type bytes = number_at wire_type bytes >>= made Num
-value_at ty.Int wire_type bytes = number_at wire_type bytes >>= made Num
-value_at ty.Text wire_type bytes = text_at wire_type bytes >>= made Text
-value_at (ty.Vector of) wire_type bytes = blob_at wire_type bytes >>= made Blob
-value_at (ty.Map of to) wire_type bytes = map_at wire_type bytes >>= made Map
+value_at ty.Byte wire_type bytes = number_at wire_type bytes >>= as_value Num
+value_at ty.Short wire_type bytes = number_at wire_type bytes >>= as_value Num
+value_at ty.Int wire_type bytes = number_at wire_type bytes >>= as_value Num
+value_at ty.Text wire_type bytes = text_at wire_type bytes >>= as_value Text
+value_at (ty.Vector of) wire_type bytes = blob_at wire_type bytes >>= as_value Blob
+value_at (ty.Map of to) wire_type bytes = map_at wire_type bytes >>= as_value Map
 
 unfoldable pub member_at : Member → List ℕ → Option (Value × List ℕ)
 member_at m bytes = do

@@ -1,8 +1,8 @@
 -- What is written for values (docs/PROTOCOL.md, "Writing").
-use Rattle.std.specs.Prelude.{ℕ, nat_le, if◌then◌else◌, List, [], ◌∷◌, length}
+use Rattle.std.specs.Prelude.{ℕ, nat_le, if◌then◌else◌, List, [], ◌∷◌, length, map as map_list}
 use Rattle.tars_model.specs.declared.value.Value.{Value, fold-Value}
 use Rattle.tars_model.specs.declared.value.Value.TheOpen as value
-use Rattle.tars_model.specs.declared.value.Pair.{Pair-F}
+use Rattle.tars_model.specs.declared.value.Pair.{Pair, Pair-F, fold-Pair}
 use Rattle.tars_model.specs.declared.member.Member.{Member}
 use Rattle.wire_words.specs.Tree.{WireValue, whole, string1, string4, simple_list, map, WirePairs, no_pairs, pair, WireFields, no_fields, field}
 use Rattle.wire_words.specs.Spelling.{shortest, spelled_fields}
@@ -28,6 +28,14 @@ wire_pair p = (p.key, p.value)
 -- what stands for a value: whole numbers in the shortest kind that holds them
 unfoldable pub wire_value : Value → WireValue
 wire_value v = fold-Value WireValue (WireValue × WireValue) wire_layer wire_pair v
+
+-- what stands for an entry of a map
+unfoldable pub wire_entry : Pair → WireValue × WireValue
+wire_entry p = fold-Pair WireValue (WireValue × WireValue) wire_layer wire_pair p
+
+-- what stands for a map
+abbrev pub wire_map : List Pair → WireValue
+wire_map pairs = map (wire_pairs (map_list wire_entry pairs))
 
 -- every member, under its tag
 abbrev pub fields_of : List Member → List Value → WireFields

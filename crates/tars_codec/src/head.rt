@@ -1,9 +1,9 @@
 use crate::wire_type::WireType;
 
-/// From this tag on a head holds the tag in a byte of its own, and these are its high four bits.
+/// From this tag on the tag has a byte of its own, and the first byte's high four bits are this.
 pub const LONG_FORM: u8 = 15;
 
-/// How a field begins.
+/// How a field begins (docs/PROTOCOL.md, "Heads").
 #[derive(Clone, Copy, Debug)]
 pub struct Head {
     pub tag: u8,

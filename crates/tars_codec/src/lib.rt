@@ -12,3 +12,6 @@ mod writing;
 pub use reading::decode;
 pub use refuse::Refuse;
 pub use writing::encode;
+
+#[cfg(test)]
+mod tests;

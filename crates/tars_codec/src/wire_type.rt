@@ -1,4 +1,4 @@
-ghost use Rattle.std.specs.Prelude.{◌≡◌};
+ghost use Rattle.std.specs.Prelude.{◌≡◌, ◌<◌};
 ghost use Rattle.tars_codec.specs.WireType.{code_of, type_of};
 
 /// How the contents of a field are spelled: the low four bits of its head (docs/PROTOCOL.md,
@@ -18,12 +18,13 @@ pub enum WireType {
 
 impl WireType {
     pub fn code(self) -> u8
-        ensures { result ≡ code_of self }
+        ensures value { result ≡ code_of self }
+        ensures below { result < 16 }
     {
         self as u8
     }
 
-    /// The type with a code, if these crates read it.
+    /// None for a code under which no value is spelled.
     #[tactic(auto, unfolding(crate::specs::WireType::type_of))]
     pub fn from_code(code: u8) -> Option<WireType>
         ensures { result ≡ type_of code }

@@ -1,0 +1,55 @@
+#![tactic(auto, unfolding(wire_words::specs::Spelling::spelled_number, wire_words::specs::Spelling::two_complement))]
+
+ghost use Rattle.std.specs.Prelude.{◌≡◌, ◌++◌, OnOk};
+ghost use Rattle.wire_words.specs.Tree.{int1, int2, int4, int8};
+ghost use Rattle.wire_words.specs.Spelling.{shortest, spelled_number};
+
+use super::fields::put_head;
+use crate::wire_type::WireType;
+use bytes::{BufMut, BytesMut};
+use std::alloc::AllocError;
+
+fn put_i8(out: &mut BytesMut, tag: u8, number: i8) -> Result<(), AllocError>
+    ensures { OnOk result (out.new.items ≡ out.old.items ++ spelled_number tag (int1 number)) }
+{
+    put_head(out, tag, WireType::Int1)?;
+    out.put_i8(number)
+}
+
+fn put_i16(out: &mut BytesMut, tag: u8, number: i16) -> Result<(), AllocError>
+    ensures { OnOk result (out.new.items ≡ out.old.items ++ spelled_number tag (int2 number)) }
+{
+    put_head(out, tag, WireType::Int2)?;
+    out.put_i16(number)
+}
+
+fn put_i32(out: &mut BytesMut, tag: u8, number: i32) -> Result<(), AllocError>
+    ensures { OnOk result (out.new.items ≡ out.old.items ++ spelled_number tag (int4 number)) }
+{
+    put_head(out, tag, WireType::Int4)?;
+    out.put_i32(number)
+}
+
+fn put_i64(out: &mut BytesMut, tag: u8, number: i64) -> Result<(), AllocError>
+    ensures { OnOk result (out.new.items ≡ out.old.items ++ spelled_number tag (int8 number)) }
+{
+    put_head(out, tag, WireType::Int8)?;
+    out.put_i64(number)
+}
+
+/// A whole number, of the shortest kind that holds it.
+pub fn put_number(out: &mut BytesMut, tag: u8, number: i64) -> Result<(), AllocError>
+    ensures { OnOk result (out.new.items ≡ out.old.items ++ spelled_number tag (shortest number)) }
+{
+    if number == 0 {
+        put_head(out, tag, WireType::ZeroTag)
+    } else if let Ok(number) = i8::try_from(number) {
+        put_i8(out, tag, number)
+    } else if let Ok(number) = i16::try_from(number) {
+        put_i16(out, tag, number)
+    } else if let Ok(number) = i32::try_from(number) {
+        put_i32(out, tag, number)
+    } else {
+        put_i64(out, tag, number)
+    }
+}
