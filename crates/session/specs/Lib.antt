@@ -1,3 +1,6 @@
 pub mod Words
 pub mod InterfaceText
 pub mod ScriptText
+pub mod Scan
+pub mod InterfaceSteps
+pub mod Reading

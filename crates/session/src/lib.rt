@@ -1,2 +1,7 @@
 //! Sessions.
 #![tactic(auto)]
+
+mod idl_parse;
+mod scan;
+
+pub use idl_parse::InterfaceText;
