@@ -1,3 +1,5 @@
 pub mod Readers
 pub mod Names
 pub mod Interface
+pub mod Texts
+pub mod Numbers

@@ -4,3 +4,4 @@ pub mod ScriptText
 pub mod Scan
 pub mod InterfaceSteps
 pub mod Reading
+pub mod Numbers

@@ -1,7 +1,7 @@
 -- Reading from the front of bytes.
 use Rattle.std.specs.Prelude.{◌≡◌, ℕ, Bool, ◌&&◌, ◌==◌, not, nat_le, if◌then◌else◌, slice_index, List, length, take, drop, Option, Some, None, position, option_and_then}
 use Rattle.std.specs.List.{list_all, list_any}
-use Rattle.std.specs.Str.{bytes_eq}
+use Rattle.std.specs.Str.{bytes_eq, is_utf8}
 use Rattle.session.specs.Words.{is_letter, keywords}
 
 infixl 10 ◌>>=◌
@@ -75,3 +75,7 @@ name = tested is_name
 
 unfoldable pub name_before : List ℕ → Front (List ℕ)
 name_before literal = before literal name
+
+-- a text
+unfoldable pub utf8 : Whole (List ℕ)
+utf8 = tested is_utf8

@@ -4,7 +4,9 @@
 ghost use Rattle.std.specs.Prelude.{◌≡◌, ◌<◌, ◌==◌, length, position, IfSome};
 ghost use Rattle.std.specs.List.{list_all};
 ghost use Rattle.session.specs.Words.{is_letter};
-ghost use Rattle.session.specs.Scan.{Gives, after, word_before, is_keyword, is_name, name, name_before};
+ghost use Rattle.session.specs.Scan.{Gives, after, word_before, is_keyword, is_name, name, name_before, utf8};
+
+use std::str;
 
 /// The longest name.
 const MAX_NAME: usize = 32;
@@ -101,4 +103,12 @@ pub fn name_before<'a>(text: &'a [u8], literal: &[u8]) -> Option<(&'a [u8], &'a 
 {
     let (word, rest) = word_before(text, literal)?;
     Some((name(word)?, rest))
+}
+
+/// The bytes as a text, if they are one.
+#[tactic(auto, unfolding(crate::specs::Scan::utf8), using(crate::proofs::Texts::utf8_is))]
+pub fn utf8(bytes: &[u8]) -> Option<&str>
+    ensures { Gives (λ text. text.now) result (utf8 bytes.now) }
+{
+    str::from_utf8(bytes).ok()
 }

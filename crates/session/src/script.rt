@@ -1,0 +1,3 @@
+//! Scripts (docs/SCRIPTS.md, "Accepted scripts").
+
+pub mod numbers;
