@@ -5,3 +5,4 @@ pub mod Scan
 pub mod InterfaceSteps
 pub mod Reading
 pub mod Numbers
+pub mod ScriptSteps

@@ -40,12 +40,16 @@ tested test bytes = if test bytes then Some bytes else None
 abbrev pub skip : {V : Type 0} → List ℕ → Whole V → Whole V
 skip literal read bytes = after literal bytes >>= read
 
+-- a piece from the front, as another reader reads it
+abbrev pub within : {V : Type 0} → Front (List ℕ) → Whole V → Front V
+within cut read bytes = do
+  piece ← cut bytes
+  v ← read piece.0
+  Some (v, piece.1)
+
 -- a word before the literal, as another reader reads it
 abbrev pub before : {V : Type 0} → List ℕ → Whole V → Front V
-before literal read bytes = do
-  word ← word_before literal bytes
-  v ← read word.0
-  Some (v, word.1)
+before literal = within (word_before literal)
 
 -- one piece, and another behind it
 infixr 8 ◌&◌

@@ -6,4 +6,4 @@ mod scan;
 mod script;
 
 pub use idl_parse::{InterfaceText, read_interface};
-pub use script::numbers::{int_of, is_number, natural_within};
+pub use script::{EventText, ObjectText, event_line, object_line};
