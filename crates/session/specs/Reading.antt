@@ -6,6 +6,7 @@ use Rattle.std.specs.Str.Parse.{digits_value}
 use Rattle.session.specs.declared.idl_parse.InterfaceText.{InterfaceText as InterfaceStruct}
 use Rattle.session.specs.declared.script.event.EventText.{EventText as EventEnum}
 use Rattle.session.specs.declared.script.event.EventText.TheVariants as events
+use Rattle.session.specs.declared.script.header.Header.{Header}
 use Rattle.session.specs.InterfaceText.{InterfaceText}
 use Rattle.session.specs.ScriptText.{EventText}
 use Rattle.session.specs.ScriptText as script
@@ -38,3 +39,10 @@ event_meant script.serve = serve
 event_meant script.work = work
 event_meant script.deliver = deliver
 event_meant script.close = close
+
+-- what the struct of a header holds
+abbrev pub header_of : Header → List ℕ × ((List ℕ × List ℕ) × ((List ℕ × (List ℕ × (ℕ × ℕ))) × (List ℕ × (List ℕ × List ℕ))))
+header_of h =
+    ( h.client.now,
+      ((h.interface.module.now, h.interface.interface.now),
+       ((h.object.id.now, (h.object.host.now, (h.object.port, h.object.timeout))), (h.rule.func.now, (h.rule.left.now, h.rule.right.now)))) )

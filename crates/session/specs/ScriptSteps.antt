@@ -1,10 +1,11 @@
 -- How a script is read, step by step.
-use Rattle.std.specs.Prelude.{ℕ, Bool, ◌&&◌, ◌||◌, ◌==◌, not, nat_le, nat_lt, if◌then◌else◌, List, length, map, count_by, Option, Some, None, ℤ, codes}
-use Rattle.std.specs.List.{list_all, before_first, after_first}
+use Rattle.std.specs.Prelude.{ℕ, Bool, true, false, ◌&&◌, ◌||◌, ◌==◌, not, nat_le, nat_lt, if◌then◌else◌, List, [], ◌∷◌, length, count_by, Option, Some, None, ℤ, codes}
+use Rattle.std.specs.List.{list_all, before_first, after_first, onto_first}
 use Rattle.std.specs.Str.{bytes_eq}
 use Rattle.session.specs.Numbers.{natural_within, number}
 use Rattle.session.specs.Reading.{EventValue, call, serve, work, deliver, close}
-use Rattle.session.specs.ScriptText.{MAX_LINE, is_part_byte, is_host_byte}
+use Rattle.session.specs.InterfaceText.{MAX_FILE}
+use Rattle.session.specs.ScriptText.{MAX_LINE, MAX_CALLS, is_part_byte, is_host_byte}
 use Rattle.session.specs.Scan.{◌>>=◌, Whole, Front, tested, skip, before, within, ◌&◌, ◌&>◌, name, name_before, utf8}
 
 -- the line in front, without its line feed; the last one may have none
@@ -23,8 +24,11 @@ is_word_of test bytes = nat_le 1 (length bytes) && list_all test bytes
 
 -- ---- the header lines
 
+abbrev pub is_file_byte : ℕ → Bool
+is_file_byte c = not (c == 32 || c == 10)
+
 unfoldable pub file_name : Whole (List ℕ)
-file_name bytes = if is_word_of (λ c. not (c == 32 || c == 10)) bytes then utf8 bytes else None
+file_name bytes = if is_word_of is_file_byte bytes then utf8 bytes else None
 
 unfoldable pub client_at : Front (List ℕ)
 client_at = on_line (skip (codes "client ") file_name)
@@ -54,6 +58,13 @@ node = before (codes " -p ") host &> (before (codes " -t ") (natural_within 1 65
 unfoldable pub object_at : Front (List ℕ × (List ℕ × (ℕ × ℕ)))
 object_at = on_line (skip (codes "object ") (before (codes "@tcp -h ") id &> node))
 
+-- the four lines
+abbrev pub HeaderValue : Type 0
+HeaderValue = List ℕ × ((List ℕ × List ℕ) × ((List ℕ × (List ℕ × (ℕ × ℕ))) × (List ℕ × (List ℕ × List ℕ))))
+
+unfoldable pub header_at : Front HeaderValue
+header_at = client_at & (interface_at & (object_at & servant_at))
+
 -- ---- events
 
 unfoldable pub call_on : Whole EventValue
@@ -68,3 +79,33 @@ event_on line =
 
 unfoldable pub event_at : Front EventValue
 event_at = on_line event_on
+
+-- ---- the whole script
+
+-- the lines of a text, each without its line feed; the last one may have none
+abbrev pub lines_of : List ℕ → List (List ℕ)
+lines_of [] = []
+lines_of (c ∷ cs) = if c == 10 then [] ∷ lines_of cs else onto_first c (lines_of cs)
+
+-- a line of at most so many bytes, as another reader reads it
+abbrev pub short : {V : Type 0} → Whole V → Whole V
+short read line = if nat_le (length line) MAX_LINE then read line else None
+
+-- an event from each line
+unfoldable pub events_on : List (List ℕ) → Option (List EventValue)
+events_on [] = Some []
+events_on (line ∷ lines) = do
+  e ← short event_on line
+  es ← events_on lines
+  Some (e ∷ es)
+
+abbrev pub is_call_value : EventValue → Bool
+is_call_value (call func first second) = true
+is_call_value _ = false
+
+-- the header, and then events
+unfoldable pub script_at : Whole (HeaderValue × List EventValue)
+script_at bytes = do
+  header ← header_at bytes
+  events ← events_on (lines_of header.1)
+  if nat_le (length bytes) MAX_FILE && nat_le (count_by is_call_value events) MAX_CALLS then Some (header.0, events) else None
