@@ -3,3 +3,4 @@ pub mod Names
 pub mod Interface
 pub mod Texts
 pub mod Numbers
+pub mod Lines

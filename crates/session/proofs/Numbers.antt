@@ -1,12 +1,12 @@
 -- Numbers: what parsing their text gives, and the readers of numbers.
-use Rattle.std.proofs.Common.{◌≡◌, ℕ, ◌+◌, ◌-◌, ◌^◌, ◌<◌, ◌≤◌, Bool, true, false, cond, eqb, leb, ltb, ◌&&◌, ◌||◌, not, List, [], ◌∷◌, length, get_or, drop, Option, Some, None, Result, Ok, Err, pos, negsuc, neg_ℤ, ℤ, refl, sym, ap, ◌∙◌, subst, inl, inr, ⊎_elim, ◌⊎◌, zero, suc, arith, rules}
+use Rattle.std.proofs.Common.{◌≡◌, ℕ, ◌^◌, ◌<◌, ◌≤◌, true, false, cond, eqb, leb, ltb, ◌&&◌, List, [], ◌∷◌, length, get_or, Option, Some, None, Result, Ok, Err, pos, neg_ℤ, ℤ, refl, sym, ap, ◌∙◌, subst, inl, inr, ⊎_elim, ◌⊎◌, zero, suc, arith, rules}
 use Rattle.std.specs.Prelude.{IsUtf8}
 use Rattle.std.specs.Int.{w32}
 use Rattle.std.specs.List.{list_all}
-use Rattle.std.specs.Result.{OkIff, result_ok}
+use Rattle.std.specs.Result.{result_ok}
 use Rattle.std.specs.Str.{IsAscii}
-use Rattle.std.specs.Str.Parse.{AllDigits, digits_value, ParsesUnsigned, ParsesSigned}
-use Rattle.std.proofs.lemmas.Bool.{and_parts, and_from, and_right, cond-true, cond-false, leb-true, ltb-true, lt-ltb, le-ltb, cases_lt, le-leb, eqb-true, eq-eqb, cases_Bool}
+use Rattle.std.specs.Str.Parse.{digits_value, ParsesUnsigned, ParsesSigned}
+use Rattle.std.proofs.lemmas.Bool.{and_parts, and_from, and_right, cond-true, cond-false, leb-true, lt-ltb, le-ltb, cases_lt, le-leb, eqb-true, eq-eqb, cases_Bool}
 use Rattle.std.proofs.lemmas.Str.{IsUtf8-from_ascii}
 use Rattle.std.proofs.lemmas.Str.Ascii.{IsAscii-nil, IsAscii-cons}
 use Rattle.std.proofs.lemmas.Str.Parse.{IsNumeralModel, numerals_by_value, parse_digits, parse_signed_digits, parse_signed_minus}

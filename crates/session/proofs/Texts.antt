@@ -1,5 +1,5 @@
 -- Texts in UTF-8.
-use Rattle.std.proofs.Common.{◌≡◌, Bool, true, false, List, ℕ, Option, Some, None}
+use Rattle.std.proofs.Common.{◌≡◌, List, ℕ, Some, None}
 use Rattle.std.proofs.lemmas.Bool.{cond-true}
 use Rattle.std.proofs.lemmas.Option.{cond_some}
 use Rattle.session.specs.Scan.{utf8}

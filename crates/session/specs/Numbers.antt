@@ -1,5 +1,5 @@
 -- How a number's text is read.
-use Rattle.std.specs.Prelude.{◌≡◌, ◌^◌, ℕ, Bool, ◌&&◌, nat_le, nat_lt, if◌then◌else◌, ℤ, pos, negsuc, List, Option, Some, None}
+use Rattle.std.specs.Prelude.{◌^◌, ℕ, Bool, ◌&&◌, nat_le, nat_lt, if◌then◌else◌, ℤ, pos, negsuc, List, Option, Some, None}
 use Rattle.std.specs.Str.Parse.{digits_value}
 use Rattle.session.specs.Words.{is_natural, is_number, number_of}
 use Rattle.session.specs.Scan.{◌>>=◌, Whole}

@@ -1,8 +1,6 @@
 -- What the structs that the readers return hold, and what a script's text means
 -- (`specs/InterfaceText.antt`, `specs/ScriptText.antt`).
-use Rattle.std.specs.Prelude.{◌≡◌, ℕ, ℤ, List, map, Option}
-use Rattle.std.specs.Global.{Vec}
-use Rattle.std.specs.Str.Parse.{digits_value}
+use Rattle.std.specs.Prelude.{ℕ, ℤ, List, Option}
 use Rattle.session.specs.declared.idl_parse.InterfaceText.{InterfaceText as InterfaceStruct}
 use Rattle.session.specs.declared.script.event.EventText.{EventText as EventEnum}
 use Rattle.session.specs.declared.script.event.EventText.TheVariants as events
@@ -42,7 +40,10 @@ event_meant script.close = close
 
 -- what the struct of a header holds
 abbrev pub header_of : Header → List ℕ × ((List ℕ × List ℕ) × ((List ℕ × (List ℕ × (ℕ × ℕ))) × (List ℕ × (List ℕ × List ℕ))))
-header_of h =
-    ( h.client.now,
-      ((h.interface.module.now, h.interface.interface.now),
-       ((h.object.id.now, (h.object.host.now, (h.object.port, h.object.timeout))), (h.rule.func.now, (h.rule.left.now, h.rule.right.now)))) )
+header_of h = (
+  h.client.now,
+  (
+    (h.interface.module.now, h.interface.interface.now),
+    ((h.object.id.now, (h.object.host.now, (h.object.port, h.object.timeout))), (h.rule.func.now, (h.rule.left.now, h.rule.right.now))),
+  ),
+)

@@ -1,5 +1,5 @@
 -- How a script is read, step by step.
-use Rattle.std.specs.Prelude.{ℕ, Bool, true, false, ◌&&◌, ◌||◌, ◌==◌, not, nat_le, nat_lt, if◌then◌else◌, List, [], ◌∷◌, length, count_by, Option, Some, None, ℤ, codes}
+use Rattle.std.specs.Prelude.{ℕ, Bool, true, false, ◌&&◌, ◌||◌, ◌==◌, not, nat_le, nat_lt, if◌then◌else◌, List, [], ◌∷◌, length, count_by, Option, Some, None, codes}
 use Rattle.std.specs.List.{list_all, before_first, after_first, onto_first}
 use Rattle.std.specs.Str.{bytes_eq}
 use Rattle.session.specs.Numbers.{natural_within, number}

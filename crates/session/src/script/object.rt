@@ -35,8 +35,7 @@ struct Node<'a> {
 fn has_only_part_bytes(word: &[u8]) -> bool
     ensures { result ≡ list_all is_part_byte word.now }
 {
-    word.iter()
-        .all(|byte| byte.is_ascii_alphabetic() || byte.is_ascii_digit() || *byte == b'_')
+    word.iter().all(|byte| byte.is_ascii_alphabetic() || byte.is_ascii_digit() || *byte == b'_')
 }
 
 fn has_only_host_bytes(word: &[u8]) -> bool
