@@ -4,3 +4,6 @@ pub mod Interface
 pub mod Texts
 pub mod Numbers
 pub mod Lines
+pub mod LineReaders
+pub mod EventsLoop
+pub mod ScriptLaws

@@ -1,13 +1,9 @@
--- Lines: how a text falls into them, and readers of one line.
-use Rattle.std.proofs.Common.{◌≡◌, ℕ, suc, ◌+◌, ◌<◌, true, false, cond, eqb, leb, ltb, not, List, [], ◌∷◌, ◌++◌, length, take, drop, Option, Some, None, refl, sym, ap, subst, ◌∙◌, append_assoc, arith, inl, inr}
-use Rattle.std.specs.List.{position_or_len, before_first, after_first, onto_first}
-use Rattle.std.proofs.lemmas.Bool.{cond-false, cases_Bool, lt-ltb}
-use Rattle.std.proofs.lemmas.List.{append-nil}
-use Rattle.session.specs.Reading.{EventValue}
-use Rattle.session.specs.Scan.{◌>>=◌, Whole}
-use Rattle.session.specs.ScriptText.{MAX_LINE}
-use Rattle.session.specs.ScriptSteps.{line_at, on_line, lines_of, short, event_on, event_at, events_on}
-use Rattle.session.proofs.Readers.{bind_some, bind_is, some_is}
+-- Lines: how a text falls into them.
+use Rattle.std.proofs.Common.{◌≡◌, ℕ, suc, ◌+◌, ◌<◌, ◌≤◌, Bool, true, false, cond, eqb, not, List, [], ◌∷◌, ◌++◌, length, codes, take, drop, refl, sym, ap, subst, ◌∙◌, append_assoc, arith, ◌⊎◌, inl, inr}
+use Rattle.std.specs.List.{position_or_len, before_first, after_first, onto_first, flat_map, AllByRecursion}
+use Rattle.std.proofs.lemmas.Bool.{and_parts, cond-false, cases_Bool, eqb-true, not-true}
+use Rattle.session.specs.ScriptSteps.{lines_of}
+use Rattle.session.proofs.Readers.{lacks}
 
 -- the first line, and what stands behind its line feed
 abbrev pub first_line : List ℕ → List ℕ
@@ -38,51 +34,79 @@ lines_of_first [] h = absurd (omega arith)
 lines_of_first (c ∷ []) h = lines_of_more c [] refl
 lines_of_first (c ∷ d ∷ ds) h = lines_of_more c (d ∷ ds) (ap (onto_first c) (lines_of_first (d ∷ ds) (omega arith)))
 
--- a line that is read is the first one, unless it is too long
-pub on_line_is : {V : Type 0} (read : Whole V) (bytes : List ℕ) → 0 < length bytes → on_line read bytes ≡ (short read (first_line bytes) >>= λ v. Some (v, behind_line bytes))
-unfolding line_at
-on_line_is read bytes h =
-    let some : ltb 0 (length bytes) ≡ true = lt-ltb 0 (length bytes) h in
-    elim (cases_Bool (leb (length (first_line bytes)) MAX_LINE)) [
-      | inl fits ↦ rw (some, fits) refl
-      | inr long ↦ rw (some, long) refl
+-- ---- lines and their text
+
+-- each line with its line feed
+abbrev pub joined : List (List ℕ) → List ℕ
+joined lines = flat_map (λ line. line ++ codes "\n") lines
+
+-- a text is its lines, the last of them maybe without its line feed
+abbrev pub IsJoined : List ℕ → List (List ℕ) → Type 0
+IsJoined bytes lines = (bytes ≡ joined lines) ⊎ (bytes ++ codes "\n" ≡ joined lines)
+
+joined_after_feed : (bytes : List ℕ) (lines : List (List ℕ)) → IsJoined bytes lines → IsJoined (10 ∷ bytes) ([] ∷ lines)
+joined_after_feed bytes lines (inl whole) = inl (ap (λ (r : List ℕ). 10 ∷ r) whole)
+joined_after_feed bytes lines (inr open') = inr (ap (λ (r : List ℕ). 10 ∷ r) open')
+
+joined_onto : (c : ℕ) (bytes : List ℕ) (lines : List (List ℕ)) → IsJoined bytes lines → IsJoined (c ∷ bytes) (onto_first c lines)
+joined_onto c bytes [] (inl none) = inr (ap (λ (r : List ℕ). c ∷ (r ++ codes "\n")) none)
+joined_onto c [] [] (inr e) = absurd cc
+joined_onto c (b ∷ bytes) [] (inr e) = absurd cc
+joined_onto c bytes (line ∷ lines) (inl whole) = inl (ap (λ (r : List ℕ). c ∷ r) whole)
+joined_onto c bytes (line ∷ lines) (inr open') = inr (ap (λ (r : List ℕ). c ∷ r) open')
+
+pub lines_join : (bytes : List ℕ) → IsJoined bytes (lines_of bytes)
+lines_join [] = inl refl
+lines_join (c ∷ cs) =
+    elim (cases_Bool (eqb c 10)) [
+      | inl feed ↦ rw (feed, eqb-true c 10 feed) (joined_after_feed cs (lines_of cs) (lines_join cs))
+      | inr other ↦ rw other (joined_onto c cs (lines_of cs) (lines_join cs))
     ]
 
--- ---- events, one line after the other
+lines_of_line : (line rest : List ℕ) → lacks 10 line ≡ true → lines_of (line ++ 10 ∷ rest) ≡ line ∷ lines_of rest
+lines_of_line [] rest h = refl
+lines_of_line (c ∷ line) rest h =
+    let parts = and_parts (not (eqb c 10)) (lacks 10 line) h in
+    cond-false (eqb c 10) _ _ (not-true (eqb c 10) parts.0) ∙ ap (onto_first c) (lines_of_line line rest parts.1)
 
--- what was read before, and what is still read
-abbrev pub with_front : List EventValue → Option (List EventValue) → Option (List EventValue)
-with_front front read = read >>= λ es. Some (front ++ es)
+-- a line that has bytes, and no line feed among them
+abbrev pub IsPlain : List ℕ → Type 0
+IsPlain line = (lacks 10 line ≡ true) × (1 ≤ length line)
 
-regroup : (front : List EventValue) (e : EventValue) (read : Option (List EventValue)) → with_front front (read >>= λ es. Some (e ∷ es)) ≡ with_front (front ++ e ∷ []) read
-regroup front e (Some es) = ap Some (simp append_assoc)
-regroup front e None = refl
+lines_of_joined : (lines : List (List ℕ)) → AllByRecursion IsPlain lines → lines_of (joined lines) ≡ lines
+lines_of_joined [] plain = refl
+lines_of_joined (line ∷ lines) plain =
+    ap lines_of (append_assoc line (codes "\n") (joined lines)) ∙ lines_of_line line (joined lines) plain.0.0 ∙ ap (λ (r : List (List ℕ)). line ∷ r) (lines_of_joined lines plain.1)
 
-events_first : (bytes : List ℕ) (e : EventValue) → 0 < length bytes → short event_on (first_line bytes) ≡ Some e → events_on (lines_of bytes) ≡ (events_on (lines_of (behind_line bytes)) >>= λ es. Some (e ∷ es))
-unfolding events_on
-events_first bytes e h read = ap events_on (lines_of_first bytes h) ∙ bind_is _ (λ e. events_on (lines_of (behind_line bytes)) >>= λ es. Some (e ∷ es)) e read
+-- a line feed at the end ends the last line, or is a line of its own
+abbrev EndsWithFeed : List (List ℕ) → List (List ℕ) → Type 0
+EndsWithFeed more lines = (more ≡ lines) ⊎ (more ≡ lines ++ [] ∷ [])
 
-pub goes_on : (front : List EventValue) (bytes behind : List ℕ) (e : EventValue) (total : Option (List EventValue)) → 0 < length bytes → event_at bytes ≡ Some (e, behind)
-    → with_front front (events_on (lines_of bytes)) ≡ total → with_front (front ++ e ∷ []) (events_on (lines_of behind)) ≡ total
-unfolding event_at
-goes_on front bytes behind e total h read so_far =
-    let a = bind_some (short event_on (first_line bytes)) (λ v. Some (v, behind_line bytes)) (e, behind) (sym (on_line_is event_on bytes h) ∙ read) in
-    let one : with_front front (events_on (lines_of bytes)) ≡ with_front (front ++ a.0 ∷ []) (events_on (lines_of (behind_line bytes))) =
-    ap (with_front front) (events_first bytes a.0 h a.1) ∙ regroup front a.0 (events_on (lines_of (behind_line bytes))) in
-    subst (λ (x : EventValue × List ℕ). with_front (front ++ x.0 ∷ []) (events_on (lines_of x.1)) ≡ total) (some_is (a.0, behind_line bytes) (e, behind) a.2) (sym one ∙ so_far)
+feed_onto : (c : ℕ) (more lines : List (List ℕ)) → EndsWithFeed more lines → EndsWithFeed (onto_first c more) (onto_first c lines)
+feed_onto c more lines (inl same) = inl (ap (onto_first c) same)
+feed_onto c more [] (inr own) = inl (ap (onto_first c) own)
+feed_onto c more (line ∷ lines) (inr own) = inr (ap (onto_first c) own)
 
-bind_none : {A B : Type 0} (r : Option A) (f : A → B) → (r >>= λ v. Some (f v)) ≡ None → r ≡ None
-bind_none (Some x) f e = absurd cc
-bind_none None f e = refl
+feed_behind_empty : (more lines : List (List ℕ)) → EndsWithFeed more lines → EndsWithFeed ([] ∷ more) ([] ∷ lines)
+feed_behind_empty more lines (inl same) = inl (ap (λ (r : List (List ℕ)). [] ∷ r) same)
+feed_behind_empty more lines (inr own) = inr (ap (λ (r : List (List ℕ)). [] ∷ r) own)
 
-pub ends : (front : List EventValue) (bytes : List ℕ) (total : Option (List EventValue)) → 0 < length bytes → event_at bytes ≡ None → with_front front (events_on (lines_of bytes)) ≡ total → total ≡ None
-unfolding event_at events_on
-ends front bytes total h read so_far =
-    let a = bind_none (short event_on (first_line bytes)) (λ v. (v, behind_line bytes)) (sym (on_line_is event_on bytes h) ∙ read) in
-    let none : events_on (lines_of bytes) ≡ None = ap events_on (lines_of_first bytes h) ∙ ap (λ (o : Option EventValue). o >>= λ e. events_on (lines_of (behind_line bytes)) >>= λ es. Some (e ∷ es)) a in
-    sym so_far ∙ ap (with_front front) none
+lines_with_feed : (bytes : List ℕ) → EndsWithFeed (lines_of (bytes ++ codes "\n")) (lines_of bytes)
+lines_with_feed [] = inr refl
+lines_with_feed (c ∷ cs) =
+    elim (cases_Bool (eqb c 10)) [
+      | inl feed ↦ rw feed (feed_behind_empty (lines_of (cs ++ codes "\n")) (lines_of cs) (lines_with_feed cs))
+      | inr other ↦ rw other (feed_onto c (lines_of (cs ++ codes "\n")) (lines_of cs) (lines_with_feed cs))
+    ]
 
-pub is_done : (front : List EventValue) (bytes : List ℕ) (total : Option (List EventValue)) → length bytes ≡ 0 → with_front front (events_on (lines_of bytes)) ≡ total → total ≡ Some front
-unfolding events_on
-is_done front [] total h so_far = sym so_far ∙ ap Some (append-nil front)
-is_done front (c ∷ cs) total h so_far = absurd (omega arith)
+no_empty_end : (lines : List (List ℕ)) → AllByRecursion IsPlain (lines ++ [] ∷ []) → ⊥
+no_empty_end [] plain = absurd (omega (arith, plain.0.1))
+no_empty_end (line ∷ lines) plain = no_empty_end lines plain.1
+
+ended : (more lines all : List (List ℕ)) → EndsWithFeed more lines → more ≡ all → AllByRecursion IsPlain all → lines ≡ all
+ended more lines all (inl same) e plain = sym same ∙ e
+ended more lines all (inr own) e plain = absurd (no_empty_end lines (subst (AllByRecursion IsPlain) (sym e ∙ own) plain))
+
+pub joined_lines : (bytes : List ℕ) (lines : List (List ℕ)) → IsJoined bytes lines → AllByRecursion IsPlain lines → lines_of bytes ≡ lines
+joined_lines bytes lines (inl whole) plain = ap lines_of whole ∙ lines_of_joined lines plain
+joined_lines bytes lines (inr open') plain = ended (lines_of (bytes ++ codes "\n")) (lines_of bytes) lines (lines_with_feed bytes) (ap lines_of open' ∙ lines_of_joined lines plain) plain

@@ -101,6 +101,16 @@ module _ {V T : Type 0} {read : Whole V} {write : T → List ℕ} {Fits : T → 
     again = λ t fits. bind_is (after literal (literal ++ write t)) read (write t) (after_again literal (write t)) ∙ exact.again t fits;
   }
 
+  -- what was read, made into another value
+  pub map_whole : {W : Type 0} (make : V → W) → IsWhole read write Fits value → IsWhole (λ bytes. read bytes >>= λ v. Some (make v)) write Fits (λ t. make (value t))
+  map_whole make exact = record {
+    takes = λ bytes w e.
+      let a = bind_some (read bytes) (λ v. Some (make v)) w e in
+      let t = exact.takes bytes a.0 a.1 in
+      (t.0, t.1, t.2, sym (some_is (make a.0) w a.2) ∙ ap make t.3);
+    again = λ t fits. bind_is _ (λ v. Some (make v)) (value t) (exact.again t fits);
+  }
+
   pub before_front : (c : ℕ) (literal : List ℕ) → IsWhole read write Fits value → ((t : T) → Fits t → lacks c (write t) ≡ true) → IsFront (before (c ∷ literal) read) (λ t. write t ++ (c ∷ literal)) Fits value
   before_front c literal exact apart = record {
     takes = λ bytes x e.

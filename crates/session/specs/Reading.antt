@@ -1,12 +1,13 @@
 -- What the structs that the readers return hold, and what a script's text means
 -- (`specs/InterfaceText.antt`, `specs/ScriptText.antt`).
-use Rattle.std.specs.Prelude.{ℕ, ℤ, List, Option}
+use Rattle.std.specs.Prelude.{◌≡◌, ℕ, ℤ, List, map, Option}
+use Rattle.std.specs.Str.Parse.{digits_value}
 use Rattle.session.specs.declared.idl_parse.InterfaceText.{InterfaceText as InterfaceStruct}
 use Rattle.session.specs.declared.script.event.EventText.{EventText as EventEnum}
 use Rattle.session.specs.declared.script.event.EventText.TheVariants as events
-use Rattle.session.specs.declared.script.header.Header.{Header}
+use Rattle.session.specs.declared.script.ScriptText.{ScriptText as ScriptStruct}
 use Rattle.session.specs.InterfaceText.{InterfaceText}
-use Rattle.session.specs.ScriptText.{EventText}
+use Rattle.session.specs.ScriptText.{EventText, ScriptText, object_id}
 use Rattle.session.specs.ScriptText as script
 use Rattle.session.specs.Numbers.{int_of}
 
@@ -38,12 +39,16 @@ event_meant script.work = work
 event_meant script.deliver = deliver
 event_meant script.close = close
 
--- what the struct of a header holds
-abbrev pub header_of : Header → List ℕ × ((List ℕ × List ℕ) × ((List ℕ × (List ℕ × (ℕ × ℕ))) × (List ℕ × (List ℕ × List ℕ))))
-header_of h = (
-  h.client.now,
-  (
-    (h.interface.module.now, h.interface.interface.now),
-    ((h.object.id.now, (h.object.host.now, (h.object.port, h.object.timeout))), (h.rule.func.now, (h.rule.left.now, h.rule.right.now))),
-  ),
-)
+-- the struct of a script holds what the text means
+pub record Reads (r : ScriptStruct) (s : ScriptText) : Type 0 where
+  pub client : r.client.now ≡ s.client
+  pub module_name : r.module.now ≡ s.module_name
+  pub interface : r.interface.now ≡ s.interface
+  pub id : r.object.id.now ≡ object_id s.object
+  pub host : r.object.host.now ≡ s.object.host
+  pub port : r.object.port ≡ digits_value 10 s.object.port
+  pub timeout : r.object.timeout ≡ digits_value 10 s.object.timeout
+  pub func : r.func.now ≡ s.func
+  pub left : r.left.now ≡ s.left
+  pub right : r.right.now ≡ s.right
+  pub events : map event_of r.events.items ≡ map event_meant s.events

@@ -1,9 +1,11 @@
 -- How a script is read, step by step.
-use Rattle.std.specs.Prelude.{ℕ, Bool, true, false, ◌&&◌, ◌||◌, ◌==◌, not, nat_le, nat_lt, if◌then◌else◌, List, [], ◌∷◌, length, count_by, Option, Some, None, codes}
+use Rattle.std.specs.Prelude.{ℕ, Bool, true, false, ◌&&◌, ◌||◌, ◌==◌, not, nat_le, nat_lt, if◌then◌else◌, List, [], ◌∷◌, length, map, count_by, Option, Some, None, codes}
 use Rattle.std.specs.List.{list_all, before_first, after_first, onto_first}
 use Rattle.std.specs.Str.{bytes_eq}
+use Rattle.session.specs.declared.script.ScriptText.{ScriptText}
+use Rattle.session.specs.declared.script.header.Header.{Header}
 use Rattle.session.specs.Numbers.{natural_within, number}
-use Rattle.session.specs.Reading.{EventValue, call, serve, work, deliver, close}
+use Rattle.session.specs.Reading.{EventValue, event_of, call, serve, work, deliver, close}
 use Rattle.session.specs.InterfaceText.{MAX_FILE}
 use Rattle.session.specs.ScriptText.{MAX_LINE, MAX_CALLS, is_part_byte, is_host_byte}
 use Rattle.session.specs.Scan.{◌>>=◌, Whole, Front, tested, skip, before, within, ◌&◌, ◌&>◌, name, name_before, utf8}
@@ -62,6 +64,13 @@ object_at = on_line (skip (codes "object ") (before (codes "@tcp -h ") id &> nod
 abbrev pub HeaderValue : Type 0
 HeaderValue = List ℕ × ((List ℕ × List ℕ) × ((List ℕ × (List ℕ × (ℕ × ℕ))) × (List ℕ × (List ℕ × List ℕ))))
 
+-- what the struct of a header holds
+abbrev pub header_of : Header → HeaderValue
+header_of h =
+    ( h.client.now,
+      ((h.interface.module.now, h.interface.interface.now),
+       ((h.object.id.now, (h.object.host.now, (h.object.port, h.object.timeout))), (h.rule.func.now, (h.rule.left.now, h.rule.right.now)))) )
+
 unfoldable pub header_at : Front HeaderValue
 header_at = client_at & (interface_at & (object_at & servant_at))
 
@@ -102,6 +111,14 @@ events_on (line ∷ lines) = do
 abbrev pub is_call_value : EventValue → Bool
 is_call_value (call func first second) = true
 is_call_value _ = false
+
+-- what the struct of a script holds
+abbrev pub script_of : ScriptText → HeaderValue × List EventValue
+script_of r =
+    ( ( r.client.now,
+        ((r.module.now, r.interface.now),
+         ((r.object.id.now, (r.object.host.now, (r.object.port, r.object.timeout))), (r.func.now, (r.left.now, r.right.now)))) ),
+      map event_of r.events.items )
 
 -- the header, and then events
 unfoldable pub script_at : Whole (HeaderValue × List EventValue)

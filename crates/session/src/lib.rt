@@ -6,4 +6,4 @@ mod scan;
 mod script;
 
 pub use idl_parse::{InterfaceText, read_interface};
-pub use script::{EventText, ObjectText, count_calls, read_events, read_header};
+pub use script::{EventText, ObjectText, ScriptText, read_script};

@@ -1,7 +1,7 @@
 use Rattle.std.proofs.Common.{◌≡◌, ◌++◌, ◌∷◌, [], map, rules}
 use Rattle.std.proofs.lemmas.List.{map_push}
 use Rattle.session.specs.Reading.{event_of}
-use Rattle.session.proofs.Lines.{goes_on, ends, is_done}
+use Rattle.session.proofs.EventsLoop.{goes_on, ends, is_done}
 use Rattle.session.proofs.script.events.read_events.Goals as goal
 
 pub returns-in_default : goal.returns-in_default

@@ -1,7 +1,7 @@
 use Rattle.std.proofs.Common.{◌≡◌, map, length}
 use Rattle.session.specs.Reading.{event_of}
 use Rattle.session.specs.ScriptSteps.{lines_of, events_on}
-use Rattle.session.proofs.Lines.{with_front}
+use Rattle.session.proofs.EventsLoop.{with_front}
 use Rattle.session.proofs.script.events.read_events.Given as goal
 
 abbrev pub invariant-loop-rest : goal.invariant-loop-rest
