@@ -6,4 +6,4 @@ pub mod Numbers
 pub mod Lines
 pub mod LineReaders
 pub mod EventsLoop
-pub mod ScriptLaws
+pub mod HeaderLaws

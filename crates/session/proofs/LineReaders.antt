@@ -28,7 +28,8 @@ pub record IsLines {V T : Type 0} (read : Front V) (lines : T → List (List ℕ
   pub takes : (bytes : List ℕ) (x : V × List ℕ) → read bytes ≡ Some x → (t : T) × (lines_of bytes ≡ lines t ++ lines_of x.1) × Fits t × (x.0 ≡ value t)
   pub again : (t : T) (bytes : List ℕ) (others : List (List ℕ)) → Fits t → lines_of bytes ≡ lines t ++ others → (rest : List ℕ) × (read bytes ≡ Some (value t, rest)) × (lines_of rest ≡ others)
 
-chosen : {A : Type 0} (b : Bool) (o : Option A) (v : A) → cond b o None ≡ Some v → (b ≡ true) × (o ≡ Some v)
+-- what was chosen by a test, where something was found
+pub chosen : {A : Type 0} (b : Bool) (o : Option A) (v : A) → cond b o None ≡ Some v → (b ≡ true) × (o ≡ Some v)
 chosen true o v e = (refl, e)
 chosen false o v e = absurd cc
 

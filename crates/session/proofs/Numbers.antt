@@ -6,7 +6,7 @@ use Rattle.std.specs.List.{list_all}
 use Rattle.std.specs.Result.{result_ok}
 use Rattle.std.specs.Str.{IsAscii}
 use Rattle.std.specs.Str.Parse.{digits_value, ParsesUnsigned, ParsesSigned}
-use Rattle.std.proofs.lemmas.Bool.{and_parts, and_from, and_right, cond-true, cond-false, leb-true, lt-ltb, le-ltb, cases_lt, le-leb, eqb-true, eq-eqb, cases_Bool}
+use Rattle.std.proofs.lemmas.Bool.{and_parts, and_from, and_right, cond-true, cond-false, leb-true, lt-ltb, le-ltb, cases_lt, le-leb, eqb-true, eq-eqb, cases_Bool, not_from_false}
 use Rattle.std.proofs.lemmas.Str.{IsUtf8-from_ascii}
 use Rattle.std.proofs.lemmas.Str.Ascii.{IsAscii-nil, IsAscii-cons}
 use Rattle.std.proofs.lemmas.Str.Parse.{IsNumeralModel, numerals_by_value, parse_digits, parse_signed_digits, parse_signed_minus}
@@ -16,7 +16,8 @@ use Rattle.session.specs.Scan.{Gives}
 use Rattle.session.specs.Numbers.{natural, natural_within, is_int, int_of, number}
 use Rattle.session.specs.Scan.{utf8}
 use Rattle.session.proofs.Texts.{utf8_takes}
-use Rattle.session.proofs.Readers.{IsWhole, bind_some, bind_is}
+use Rattle.session.proofs.Names.{lacks_from}
+use Rattle.session.proofs.Readers.{lacks, IsWhole, bind_some, bind_is}
 
 -- digits, in our words
 digits : IsNumeralModel (λ ds. list_all is_digit ds ≡ true) (digits_value 10)
@@ -145,3 +146,16 @@ number_whole = record {
   takes = λ bytes v e. let c = cond_some (is_number bytes) (int_of bytes) v e in (bytes, refl, c.0, sym c.1);
   again = λ t is. cond-true (is_number t) (Some (int_of t)) None is;
 }
+
+-- ---- bytes that stand in no number
+
+pub natural_lacks : (c : ℕ) (text : List ℕ) → is_digit c ≡ false → is_natural text ≡ true → lacks c text ≡ true
+natural_lacks c text other h = lacks_from is_digit c text other (natural_digits text h).0
+
+pub number_lacks : (c : ℕ) (text : List ℕ) → is_digit c ≡ false → eqb 45 c ≡ false → is_number text ≡ true → lacks c text ≡ true
+number_lacks c [] other unlike h = absurd cc
+number_lacks c (b ∷ bytes) other unlike h =
+    elim (number_parts b bytes h) [
+      | inl minus ↦ and_from _ _ (rw minus.0 (not_from_false _ unlike)) (natural_lacks c bytes other minus.1)
+      | inr plain ↦ natural_lacks c (b ∷ bytes) other plain.1
+    ]
