@@ -7,3 +7,4 @@ pub mod Lines
 pub mod LineReaders
 pub mod EventsLoop
 pub mod HeaderLaws
+pub mod EventLaws
