@@ -1,12 +1,12 @@
 -- The header of a script: what is read is so written, and what is so written is read.
 use Rattle.std.proofs.Common.{◌≡◌, ℕ, ◌≤◌, Bool, true, false, cond, eqb, leb, ◌&&◌, ◌||◌, not, List, [], ◌∷◌, ◌++◌, length, codes, Option, Some, None, refl, sym, ap, subst, ◌∙◌, append_assoc, arith}
 use Rattle.std.specs.Bool.{Decides}
-use Rattle.std.specs.List.{list_all}
+use Rattle.std.specs.List.{list_all, AllByRecursion}
 use Rattle.std.specs.Str.Parse.{digits_value}
 use Rattle.std.proofs.lemmas.Bool.{and_parts, and_from, leb-true, le-leb, cond-true}
 use Rattle.std.proofs.lemmas.List.Folds.{list_all-append}
 use Rattle.std.proofs.lemmas.Option.{cond_some}
-use Rattle.session.specs.Words.{IsName, IsNaturalWithin}
+use Rattle.session.specs.Words.{is_letter, IsName, IsNaturalWithin}
 use Rattle.session.specs.ScriptText.{IsFileName, IsWordOf, is_part_byte, is_host_byte, MAX_LINE}
 use Rattle.session.specs.Scan.{◌>>=◌, utf8, before, ◌&>◌}
 use Rattle.session.specs.ScriptSteps.{is_word_of, is_file_byte, file_name, client_at, interface_at, servant_at, part, host, id, node, object_at, HeaderValue, header_at}
@@ -14,6 +14,7 @@ use Rattle.session.proofs.Readers.{lacks, IsWhole, bind_some, bind_is, some_is, 
 use Rattle.session.proofs.Names.{lacks_from, name_whole, name_before_front}
 use Rattle.session.proofs.Texts.{utf8_takes, utf8_again}
 use Rattle.session.proofs.Numbers.{natural_lacks, natural_within_whole}
+use Rattle.session.proofs.Lines.{IsPlain}
 use Rattle.session.proofs.LineReaders.{chosen, IsLines, line_lines, and_lines}
 
 -- ---- words
@@ -140,3 +141,32 @@ header_read =
     let object = skip_whole (codes "object ") (and_whole (before_front 64 (codes "tcp -h ") id_whole (λ p are. id_lacks 64 p refl refl are)) node_whole) in
     let servant = skip_whole (codes "servant ") (and_whole (name_before_front 32 (codes "add ") refl) (and_whole (name_before_front 32 [] refl) name_whole)) in
     and_lines (line_lines client) (and_lines (line_lines interface) (and_lines (line_lines object) (line_lines servant)))
+
+-- ---- the lines are plain
+
+lacks_append : (c : ℕ) (xs ys : List ℕ) → lacks c xs ≡ true → lacks c ys ≡ true → lacks c (xs ++ ys) ≡ true
+lacks_append c xs ys first second = list_all-append (λ b. not (eqb b c)) xs ys ∙ and_from _ _ first second
+
+object_plain : (o : Parts × Node) → lacks 10 (id_written o.0) ≡ true → lacks 10 o.1.0 ≡ true → lacks 10 o.1.1.0 ≡ true → lacks 10 o.1.1.1 ≡ true → lacks 10 (object_written o) ≡ true
+object_plain o id host port timeout =
+    let node : lacks 10 (node_written o.1) ≡ true = simp (list_all-append, host, port, timeout) in
+    lacks_append 10 (id_written o.0 ++ codes "@tcp -h ") (node_written o.1) (lacks_append 10 (id_written o.0) (codes "@tcp -h ") id refl) node
+
+pub header_plain : (h : HeaderText) → IsHeader h → AllByRecursion IsPlain (header_lines h)
+header_plain h is =
+    let name : (word : List ℕ) → IsName word → lacks 10 word ≡ true = λ word is. lacks_from is_letter 10 word refl is.letters in
+    let module_name = name h.1.0.0 is.1.0.0.0 in
+    let interface_name = name h.1.0.1 is.1.0.0.1 in
+    let node = is.1.1.0.0.1 in
+    let id = id_lacks 10 h.1.1.0.0 refl refl is.1.1.0.0.0 in
+    let host = lacks_from is_host_byte 10 h.1.1.0.1.0 refl node.0.each in
+    let port = natural_lacks 10 h.1.1.0.1.1.0 refl node.1.0.form in
+    let timeout = natural_lacks 10 h.1.1.0.1.1.1 refl node.1.1.form in
+    let func = name h.1.1.1.0 is.1.1.1.0.0 in
+    let left = name h.1.1.1.1.0 is.1.1.1.0.1.0 in
+    let right = name h.1.1.1.1.1 is.1.1.1.0.1.1 in
+    let client : IsPlain (client_written h.0) = (lacks_from is_file_byte 10 h.0 refl is.0.0.word, omega arith) in
+    let interface : IsPlain (interface_written h.1.0) = (simp (list_all-append, module_name, interface_name), omega arith) in
+    let object : IsPlain (object_written h.1.1.0) = (object_plain h.1.1.0 id host port timeout, omega arith) in
+    let servant : IsPlain (servant_written h.1.1.1) = (simp (list_all-append, func, left, right), omega arith) in
+    (client, (interface, (object, (servant, tt))))

@@ -8,3 +8,4 @@ pub mod LineReaders
 pub mod EventsLoop
 pub mod HeaderLaws
 pub mod EventLaws
+pub mod ScriptLaws
