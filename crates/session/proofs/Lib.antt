@@ -2,3 +2,14 @@ pub mod PacketFits
 pub mod PacketLengths
 pub mod Framed
 pub mod ServiceLemmas
+pub mod Readers
+pub mod Names
+pub mod Interface
+pub mod Texts
+pub mod Numbers
+pub mod Lines
+pub mod LineReaders
+pub mod EventsLoop
+pub mod HeaderLaws
+pub mod EventLaws
+pub mod ScriptLaws

@@ -7,3 +7,8 @@ pub mod Services
 pub mod Courses
 pub mod Planned
 pub mod Loading
+pub mod Scan
+pub mod InterfaceSteps
+pub mod Reading
+pub mod Numbers
+pub mod ScriptSteps

@@ -2,15 +2,20 @@
 #![tactic(auto)]
 
 mod bodies;
+mod idl_parse;
 mod link_log;
 mod loaded;
 mod pending;
 mod report;
 mod rpc_packet;
+mod scan;
+mod script;
 mod servant_core;
 mod service;
 mod tars_frames;
 
+pub use idl_parse::{InterfaceText, read_interface};
 pub use link_log::{GotFate, GotRow, LinkLog, SentRow};
 pub use loaded::{CallSpec, Endpoint, Event, FuncRule, Loaded, ObjectName, Rule};
 pub use report::{CallId, End, PickNote, Refusal, Report, RouteStep, Row, Why};
+pub use script::{EventText, ObjectText, ScriptText, read_script};
