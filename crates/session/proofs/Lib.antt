@@ -13,3 +13,5 @@ pub mod EventsLoop
 pub mod HeaderLaws
 pub mod EventLaws
 pub mod ScriptLaws
+pub mod SessionLaws
+pub mod LoadingLaws

@@ -81,7 +81,7 @@ calls_from : (n : ℕ) (ts : List EventText) → fold (λ k t. k + cond (is_call
 calls_from n [] = refl
 calls_from n (t ∷ ts) = rw (same_call t) (calls_from (n + cond (is_call_value (event_meant t)) 1 0) ts)
 
-calls_are : (ts : List EventText) → count_by is_call ts ≡ count_by is_call_value (map event_meant ts)
+pub calls_are : (ts : List EventText) → count_by is_call ts ≡ count_by is_call_value (map event_meant ts)
 calls_are ts = calls_from 0 ts
 
 abbrev AreShort : List (List ℕ) → Type 0
@@ -107,11 +107,16 @@ lines_short s bytes is = subst AreShort (sym (lines_are s)) is.short
 header_fits : (s : ScriptText) (bytes : List ℕ) → IsScriptText s bytes → IsHeader (header_text s)
 header_fits s bytes is =
     let short = lines_short s bytes is in
-    let o = is.object in
-    ( (is.client, short.0),
-      (((is.module_name, is.interface), short.1.0),
-       ((((o.app, (o.server, o.object)), (o.host, (o.port, o.timeout))), short.1.1.0),
-        ((is.func, (is.left, is.right)), short.1.1.1.0))) )
+    let o = is.object in (
+      (is.client, short.0),
+      (
+        ((is.module_name, is.interface), short.1.0),
+        (
+          (((o.app, (o.server, o.object)), (o.host, (o.port, o.timeout))), short.1.1.0),
+          ((is.func, (is.left, is.right)), short.1.1.1.0),
+        ),
+      ),
+    )
 
 lines_plain : (s : ScriptText) (bytes : List ℕ) → IsScriptText s bytes → AllByRecursion IsPlain (script_lines s)
 lines_plain s bytes is =
@@ -135,7 +140,7 @@ unfolding script_at
 again s bytes is =
     let header = header_read.again (header_text s) bytes (map event_line s.events) (header_fits s bytes is) (lines_from s bytes is) in
     let events : events_on (lines_of header.0) ≡ Some (map event_meant s.events) =
-        ap events_on header.2 ∙ events_again s.events (events_short s.events is.events (lines_short s bytes is).1.1.1.1) in
+    ap events_on header.2 ∙ events_again s.events (events_short s.events is.events (lines_short s bytes is).1.1.1.1) in
     let calls : count_by is_call_value (map event_meant s.events) ≤ MAX_CALLS = subst (λ (n : ℕ). n ≤ MAX_CALLS) (calls_are s.events) is.calls in
     let limits : passes bytes (map event_meant s.events) ≡ true = and_from _ _ (le-leb _ _ is.within) (le-leb _ _ calls) in
     bind_is (header_at bytes) (behind bytes) (header_meant (header_text s), header.0) header.1

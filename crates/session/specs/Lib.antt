@@ -12,3 +12,5 @@ pub mod InterfaceSteps
 pub mod Reading
 pub mod Numbers
 pub mod ScriptSteps
+pub mod LoadAnswers
+pub mod SessionSteps

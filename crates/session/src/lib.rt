@@ -4,7 +4,10 @@
 mod bodies;
 mod idl_parse;
 mod link_log;
+mod load_fault;
 mod loaded;
+mod loading;
+mod mode;
 mod pending;
 mod report;
 mod rpc_packet;
@@ -16,6 +19,9 @@ mod tars_frames;
 
 pub use idl_parse::{InterfaceText, read_interface};
 pub use link_log::{GotFate, GotRow, LinkLog, SentRow};
+pub use load_fault::LoadFault;
 pub use loaded::{CallSpec, Endpoint, Event, FuncRule, Loaded, ObjectName, Rule};
+pub use loading::load;
+pub use mode::Mode;
 pub use report::{CallId, End, PickNote, Refusal, Report, RouteStep, Row, Why};
 pub use script::{EventText, ObjectText, ScriptText, read_script};

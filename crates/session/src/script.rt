@@ -18,10 +18,9 @@ mod numbers;
 mod object;
 
 pub use event::EventText;
-pub use object::ObjectText;
-
 use events::{count_calls, read_events};
 use header::{Header, InterfaceName, RuleText, read_header};
+pub use object::ObjectText;
 
 /// The most calls of a script.
 const MAX_CALLS: usize = 4096;
