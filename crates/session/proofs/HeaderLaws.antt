@@ -1,14 +1,13 @@
 -- The header of a script: what is read is so written, and what is so written is read.
-use Rattle.std.proofs.Common.{◌≡◌, ℕ, ◌≤◌, Bool, true, false, cond, eqb, leb, ◌&&◌, ◌||◌, not, List, [], ◌∷◌, ◌++◌, length, codes, Option, Some, None, refl, sym, ap, subst, ◌∙◌, append_assoc, arith}
+use Rattle.std.proofs.Common.{◌≡◌, ℕ, ◌≤◌, Bool, true, false, eqb, leb, not, List, [], ◌∷◌, ◌++◌, length, codes, Some, None, refl, sym, ◌∙◌, arith}
 use Rattle.std.specs.Bool.{Decides}
 use Rattle.std.specs.List.{list_all, AllByRecursion}
 use Rattle.std.specs.Str.Parse.{digits_value}
 use Rattle.std.proofs.lemmas.Bool.{and_parts, and_from, leb-true, le-leb, cond-true}
 use Rattle.std.proofs.lemmas.List.Folds.{list_all-append}
-use Rattle.std.proofs.lemmas.Option.{cond_some}
 use Rattle.session.specs.Words.{is_letter, IsName, IsNaturalWithin}
 use Rattle.session.specs.ScriptText.{IsFileName, IsWordOf, is_part_byte, is_host_byte, MAX_LINE}
-use Rattle.session.specs.Scan.{◌>>=◌, utf8, before, ◌&>◌}
+use Rattle.session.specs.Scan.{utf8, before, ◌&>◌}
 use Rattle.session.specs.ScriptSteps.{is_word_of, is_file_byte, file_name, client_at, interface_at, servant_at, part, host, id, node, object_at, HeaderValue, header_at}
 use Rattle.session.proofs.Readers.{lacks, IsWhole, bind_some, bind_is, some_is, tested_whole, skip_whole, before_front, and_whole}
 use Rattle.session.proofs.Names.{lacks_from, name_whole, name_before_front}
@@ -20,18 +19,19 @@ use Rattle.session.proofs.LineReaders.{chosen, IsLines, line_lines, and_lines}
 -- ---- words
 
 word_decides : (test : ℕ → Bool) (word : List ℕ) → Decides (is_word_of test word) (IsWordOf test word)
-word_decides test word =
-    ( λ e. let parts = and_parts (leb 1 (length word)) (list_all test word) e in record { some = leb-true 1 (length word) parts.0; each = parts.1 },
-      λ is. and_from _ _ (le-leb 1 (length word) is.some) is.each )
+word_decides test word = (
+  λ e. let parts = and_parts (leb 1 (length word)) (list_all test word) e in record { some = leb-true 1 (length word) parts.0; each = parts.1 },
+  λ is. and_from _ _ (le-leb 1 (length word) is.some) is.each,
+)
 
 file_name_whole : IsWhole file_name (λ (word : List ℕ). word) IsFileName (λ (word : List ℕ). word)
 unfolding file_name
 file_name_whole = record {
   takes = λ bytes v e.
-    let c = chosen (is_word_of is_file_byte bytes) (utf8 bytes) v e in
-    let word = (word_decides is_file_byte bytes).0 c.0 in
-    let text = utf8_takes bytes v c.1 in
-    (bytes, refl, record { some = word.some; word = word.each; utf8 = text.1 }, sym text.0);
+      let c = chosen (is_word_of is_file_byte bytes) (utf8 bytes) v e in
+      let word = (word_decides is_file_byte bytes).0 c.0 in
+      let text = utf8_takes bytes v c.1 in
+      (bytes, refl, record { some = word.some; word = word.each; utf8 = text.1 }, sym text.0);
   again = λ t is. cond-true (is_word_of is_file_byte t) (utf8 t) None ((word_decides is_file_byte t).1 (record { some = is.some; each = is.word })) ∙ utf8_again t is.utf8;
 }
 
@@ -66,9 +66,9 @@ id_whole : IsWhole id id_written AreParts id_written
 unfolding id
 id_whole = record {
   takes = λ bytes v e.
-    let a = bind_some ((before (codes ".") part &> (before (codes ".") part &> part)) bytes) (λ _. Some bytes) v e in
-    let t = parts_whole.takes bytes a.0 a.1 in
-    (t.0, t.1, t.2, sym (some_is bytes v a.2) ∙ t.1);
+      let a = bind_some ((before (codes ".") part &> (before (codes ".") part &> part)) bytes) (λ _. Some bytes) v e in
+      let t = parts_whole.takes bytes a.0 a.1 in
+      (t.0, t.1, t.2, sym (some_is bytes v a.2) ∙ t.1);
   again = λ t are. bind_is _ (λ _. Some (id_written t)) t (parts_whole.again t are);
 }
 

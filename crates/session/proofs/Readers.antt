@@ -105,9 +105,9 @@ module _ {V T : Type 0} {read : Whole V} {write : T → List ℕ} {Fits : T → 
   pub map_whole : {W : Type 0} (make : V → W) → IsWhole read write Fits value → IsWhole (λ bytes. read bytes >>= λ v. Some (make v)) write Fits (λ t. make (value t))
   map_whole make exact = record {
     takes = λ bytes w e.
-      let a = bind_some (read bytes) (λ v. Some (make v)) w e in
-      let t = exact.takes bytes a.0 a.1 in
-      (t.0, t.1, t.2, sym (some_is (make a.0) w a.2) ∙ ap make t.3);
+        let a = bind_some (read bytes) (λ v. Some (make v)) w e in
+        let t = exact.takes bytes a.0 a.1 in
+        (t.0, t.1, t.2, sym (some_is (make a.0) w a.2) ∙ ap make t.3);
     again = λ t fits. bind_is _ (λ v. Some (make v)) (value t) (exact.again t fits);
   }
 

@@ -1,21 +1,17 @@
 -- Scripts: what is read is so written, and what is so written is read.
-use Rattle.std.proofs.Common.{◌≡◌, ℕ, ◌+◌, ◌≤◌, Bool, true, false, cond, leb, ◌&&◌, List, [], ◌∷◌, ◌++◌, length, codes, map, Option, Some, None, Result, Ok, Err, refl, sym, ap, subst, ◌∙◌, append_assoc, arith, ◌⊎◌, inl, inr}
-use Rattle.std.specs.Prelude.{IfOk, IfSome, IsSomeAnd, count_by, fold}
+use Rattle.std.proofs.Common.{◌≡◌, ℕ, ◌+◌, ◌≤◌, Bool, true, cond, leb, ◌&&◌, List, [], ◌∷◌, ◌++◌, length, map, Option, Some, None, refl, sym, ap, subst, ◌∙◌, append_assoc}
+use Rattle.std.specs.Prelude.{IfSome, IsSomeAnd, count_by, fold}
 use Rattle.std.specs.List.{AllByRecursion}
 use Rattle.std.proofs.lemmas.Bool.{and_parts, and_from, leb-true, le-leb, cond-true}
-use Rattle.std.proofs.lemmas.List.Folds.{list_all-append}
 use Rattle.std.proofs.lemmas.Option.{cond_some}
 use Rattle.session.specs.declared.script.ScriptText.{ScriptText as ScriptStruct}
-use Rattle.session.specs.Words.{is_letter, IsName}
 use Rattle.session.specs.InterfaceText.{MAX_FILE}
 use Rattle.session.specs.ScriptText.{EventText, ObjectText, ScriptText, object_id, client_line, interface_header, object_line, servant_line, event_line, script_lines, script_text, is_host_byte, IsObject, IsEvent, is_call, IsScriptText, MAX_LINE, MAX_CALLS}
 use Rattle.session.specs.ScriptText as script
 use Rattle.session.specs.Reading.{EventValue, event_meant, Reads}
 use Rattle.session.specs.Scan.{◌>>=◌, Gives}
-use Rattle.session.specs.ScriptSteps.{lines_of, events_on, is_call_value, is_file_byte, HeaderValue, header_at, script_of, script_at}
-use Rattle.session.proofs.Readers.{lacks, bind_some, bind_is, some_is}
-use Rattle.session.proofs.Names.{lacks_from}
-use Rattle.session.proofs.Numbers.{natural_lacks}
+use Rattle.session.specs.ScriptSteps.{lines_of, events_on, is_call_value, HeaderValue, header_at, script_of, script_at}
+use Rattle.session.proofs.Readers.{bind_some, bind_is, some_is}
 use Rattle.session.proofs.Lines.{IsPlain, IsJoined, lines_join, joined_lines}
 use Rattle.session.proofs.HeaderLaws.{id_written, HeaderText, client_written, interface_written, object_written, servant_written, header_lines, IsHeader, header_meant, header_read, header_plain}
 use Rattle.session.proofs.EventLaws.{event_plain, IsShortEvent, events_take, events_again}
@@ -107,11 +103,16 @@ lines_short s bytes is = subst AreShort (sym (lines_are s)) is.short
 header_fits : (s : ScriptText) (bytes : List ℕ) → IsScriptText s bytes → IsHeader (header_text s)
 header_fits s bytes is =
     let short = lines_short s bytes is in
-    let o = is.object in
-    ( (is.client, short.0),
-      (((is.module_name, is.interface), short.1.0),
-       ((((o.app, (o.server, o.object)), (o.host, (o.port, o.timeout))), short.1.1.0),
-        ((is.func, (is.left, is.right)), short.1.1.1.0))) )
+    let o = is.object in (
+      (is.client, short.0),
+      (
+        ((is.module_name, is.interface), short.1.0),
+        (
+          (((o.app, (o.server, o.object)), (o.host, (o.port, o.timeout))), short.1.1.0),
+          ((is.func, (is.left, is.right)), short.1.1.1.0),
+        ),
+      ),
+    )
 
 lines_plain : (s : ScriptText) (bytes : List ℕ) → IsScriptText s bytes → AllByRecursion IsPlain (script_lines s)
 lines_plain s bytes is =
@@ -135,7 +136,7 @@ unfolding script_at
 again s bytes is =
     let header = header_read.again (header_text s) bytes (map event_line s.events) (header_fits s bytes is) (lines_from s bytes is) in
     let events : events_on (lines_of header.0) ≡ Some (map event_meant s.events) =
-        ap events_on header.2 ∙ events_again s.events (events_short s.events is.events (lines_short s bytes is).1.1.1.1) in
+    ap events_on header.2 ∙ events_again s.events (events_short s.events is.events (lines_short s bytes is).1.1.1.1) in
     let calls : count_by is_call_value (map event_meant s.events) ≤ MAX_CALLS = subst (λ (n : ℕ). n ≤ MAX_CALLS) (calls_are s.events) is.calls in
     let limits : passes bytes (map event_meant s.events) ≡ true = and_from _ _ (le-leb _ _ is.within) (le-leb _ _ calls) in
     bind_is (header_at bytes) (behind bytes) (header_meant (header_text s), header.0) header.1

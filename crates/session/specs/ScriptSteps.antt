@@ -66,10 +66,13 @@ HeaderValue = List ℕ × ((List ℕ × List ℕ) × ((List ℕ × (List ℕ × 
 
 -- what the struct of a header holds
 abbrev pub header_of : Header → HeaderValue
-header_of h =
-    ( h.client.now,
-      ((h.interface.module.now, h.interface.interface.now),
-       ((h.object.id.now, (h.object.host.now, (h.object.port, h.object.timeout))), (h.rule.func.now, (h.rule.left.now, h.rule.right.now)))) )
+header_of h = (
+  h.client.now,
+  (
+    (h.interface.module.now, h.interface.interface.now),
+    ((h.object.id.now, (h.object.host.now, (h.object.port, h.object.timeout))), (h.rule.func.now, (h.rule.left.now, h.rule.right.now))),
+  ),
+)
 
 unfoldable pub header_at : Front HeaderValue
 header_at = client_at & (interface_at & (object_at & servant_at))
@@ -114,11 +117,16 @@ is_call_value _ = false
 
 -- what the struct of a script holds
 abbrev pub script_of : ScriptText → HeaderValue × List EventValue
-script_of r =
-    ( ( r.client.now,
-        ((r.module.now, r.interface.now),
-         ((r.object.id.now, (r.object.host.now, (r.object.port, r.object.timeout))), (r.func.now, (r.left.now, r.right.now)))) ),
-      map event_of r.events.items )
+script_of r = (
+  (
+    r.client.now,
+    (
+      (r.module.now, r.interface.now),
+      ((r.object.id.now, (r.object.host.now, (r.object.port, r.object.timeout))), (r.func.now, (r.left.now, r.right.now))),
+    ),
+  ),
+  map event_of r.events.items,
+)
 
 -- the header, and then events
 unfoldable pub script_at : Whole (HeaderValue × List EventValue)

@@ -7,10 +7,7 @@ ghost use Rattle.session.specs.InterfaceSteps.{signature_at, names_at, is_end, i
 ghost use Rattle.session.specs.Reading.{names_of};
 ghost use Rattle.session.specs.Scan.{Gives};
 
-use crate::scan::{after, name_before};
-
-/// The longest file that is read, in bytes.
-pub const MAX_FILE: usize = 1_048_576;
+use crate::scan::{MAX_FILE, after, name_before};
 
 /// What an interface file of the accepted form names.
 #[derive(Clone, Copy, Debug)]

@@ -8,7 +8,10 @@ ghost use Rattle.session.specs.Scan.{Gives, after, word_before, is_keyword, is_n
 
 use std::str;
 
-/// The longest name.
+/// The longest file that is read, in bytes.
+pub const MAX_FILE: usize = 1_048_576;
+
+/// The longest name, in bytes.
 const MAX_NAME: usize = 32;
 
 /// The words of the interface language, which are no names.

@@ -7,7 +7,7 @@ ghost use Rattle.session.specs.ScriptText.{IsScriptText};
 ghost use Rattle.session.specs.ScriptText as written;
 ghost use Rattle.session.specs.ScriptSteps.{header_of, script_of, script_at};
 
-use crate::idl_parse::MAX_FILE;
+use crate::scan::MAX_FILE;
 use std::alloc::{AllocError, Global};
 
 mod event;
@@ -18,10 +18,9 @@ mod numbers;
 mod object;
 
 pub use event::EventText;
-pub use object::ObjectText;
-
 use events::{count_calls, read_events};
 use header::{Header, InterfaceName, RuleText, read_header};
+pub use object::ObjectText;
 
 /// The most calls of a script.
 const MAX_CALLS: usize = 4096;
