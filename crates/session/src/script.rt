@@ -88,3 +88,6 @@ pub fn read_script(alloc: Global, text: &[u8]) -> Result<Option<ScriptText<'_>>,
 {
     read_file(alloc, text)
 }
+
+#[cfg(test)]
+mod tests;
