@@ -9,6 +9,7 @@ use Rattle.session.specs.Scan.{◌>>=◌, Whole}
 unfoldable pub natural : Whole ℕ
 natural text = if is_natural text && nat_lt (digits_value 10 text) (2 ^ 32) then Some (digits_value 10 text) else None
 
+-- a natural number in a range
 unfoldable pub natural_within : ℕ → ℕ → Whole ℕ
 natural_within low high text = do
   n ← natural text

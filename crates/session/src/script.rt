@@ -67,13 +67,16 @@ impl<'a> ScriptText<'a> {
 fn read_file(alloc: Global, text: &[u8]) -> Result<Option<ScriptText<'_>>, AllocError>
     ensures { IfOk result (λ r. Gives script_of r (script_at text.now)) }
 {
+    if text.len() > MAX_FILE {
+        return Ok(None);
+    }
     let Some((header, rest)) = read_header(text) else {
         return Ok(None);
     };
     let Some(events) = read_events(alloc, rest)? else {
         return Ok(None);
     };
-    if text.len() > MAX_FILE || count_calls(&events) > MAX_CALLS {
+    if count_calls(&events) > MAX_CALLS {
         return Ok(None);
     }
     Ok(Some(ScriptText::new(header, events)))
