@@ -3,7 +3,8 @@
 ghost use Rattle.std.specs.Prelude.{◌≡◌, IfSome, IsSomeAnd, List, ℕ};
 ghost use Rattle.session.specs.InterfaceText.{IsInterfaceText};
 ghost use Rattle.session.specs.InterfaceText as idl;
-ghost use Rattle.session.specs.InterfaceSteps.{signature_of, signature_at, names_at, is_end, interface_at};
+ghost use Rattle.session.specs.InterfaceSteps.{signature_of, signature_at, names_at};
+ghost use Rattle.session.specs.InterfaceSteps.{is_end, interface_at};
 ghost use Rattle.session.specs.Reading.{names_of};
 ghost use Rattle.session.specs.Scan.{Gives};
 
@@ -86,7 +87,8 @@ pub fn read_interface(text: &[u8]) -> Option<InterfaceText<'_>>
     // What is read is so written.
     ensures found { IfSome result (λ r. IsInterfaceText (names_of r) text.now) }
     // What is so written is read.
-    ensures only { (t : idl.InterfaceText) → IsInterfaceText t text.now → IsSomeAnd result (λ r. names_of r ≡ t) }
+    ensures only { (t : idl.InterfaceText) → IsInterfaceText t text.now
+        → IsSomeAnd result (λ r. names_of r ≡ t) }
 {
     read_file(text)
 }

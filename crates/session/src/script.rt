@@ -85,9 +85,11 @@ fn read_file(alloc: Global, text: &[u8]) -> Result<Option<ScriptText<'_>>, Alloc
 /// What the script says, if it has the accepted form.
 pub fn read_script(alloc: Global, text: &[u8]) -> Result<Option<ScriptText<'_>>, AllocError>
     // What is read is so written.
-    ensures found { IfOk result (λ r. IfSome r (λ r. (s : written.ScriptText) × IsScriptText s text.now × Reads r s)) }
+    ensures found { IfOk result (λ r. IfSome r (λ r.
+        (s : written.ScriptText) × IsScriptText s text.now × Reads r s)) }
     // What is so written is read.
-    ensures only { (s : written.ScriptText) → IsScriptText s text.now → IfOk result (λ r. IsSomeAnd r (λ r. Reads r s)) }
+    ensures only { (s : written.ScriptText) → IsScriptText s text.now
+        → IfOk result (λ r. IsSomeAnd r (λ r. Reads r s)) }
 {
     read_file(alloc, text)
 }

@@ -22,8 +22,10 @@ fn with_line(alloc: Global, at: usize, line: &[u8]) -> Result<Vec<u8>, AllocErro
 
 #[test]
 fn an_accepted_script_gives_its_fields(rt: HostRuntime) -> Result<(), Fail> {
-    let text =
-        b"client \xC3\xA4.tars\ninterface Demo::Adder\nobject Demo.My_Server.Obj2@tcp -h a-b.c -p 65535 -t 3600000\nservant add add right left\nserve 1\ncall 1 add -2147483648 2147483648\nwork 1\ndeliver 1\nclose";
+    let text = b"client \xC3\xA4.tars\ninterface Demo::Adder\n\
+        object Demo.My_Server.Obj2@tcp -h a-b.c -p 65535 -t 3600000\n\
+        servant add add right left\nserve 1\ncall 1 add -2147483648 2147483648\n\
+        work 1\ndeliver 1\nclose";
     let script = read_script(rt.alloc(), text)?.ok_or("the script is accepted")?;
     assert_eq!(rt; script.client, "\u{E4}.tars");
     let names = [
