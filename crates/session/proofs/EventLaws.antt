@@ -1,18 +1,17 @@
 -- Events: what is read is so written, and what is so written is read.
-use Rattle.std.proofs.Common.{◌≡◌, ℕ, ◌≤◌, Bool, true, false, cond, eqb, List, [], ◌∷◌, ◌++◌, length, codes, map, Option, Some, None, refl, sym, ap, subst, ◌∙◌, append_assoc, arith, ◌⊎◌, inl, inr}
+use Rattle.std.proofs.Common.{◌≡◌, ℕ, ◌≤◌, Bool, true, false, cond, List, [], ◌∷◌, ◌++◌, length, codes, map, Some, refl, sym, ap, ◌∙◌, append_assoc, arith, ◌⊎◌, inl, inr}
 use Rattle.std.specs.List.{AllByRecursion}
 use Rattle.std.specs.Str.{bytes_eq}
 use Rattle.std.proofs.lemmas.List.Folds.{list_all-append}
 use Rattle.std.proofs.lemmas.Slice.Eq.{bytes_eq-Decides}
 use Rattle.session.specs.Words.{is_letter, IsName, is_number}
-use Rattle.session.specs.Numbers.{int_of}
-use Rattle.session.specs.Reading.{EventValue, event_meant}
+use Rattle.session.specs.Reading.{int_of, EventValue, event_meant}
 use Rattle.session.specs.Reading as value
 use Rattle.session.specs.Scan.{◌>>=◌}
 use Rattle.session.specs.ScriptText.{EventText, event_line, IsEvent, MAX_LINE}
 use Rattle.session.specs.ScriptText as script
 use Rattle.session.specs.ScriptSteps.{call_on, event_on, short, events_on}
-use Rattle.session.proofs.Readers.{lacks, IsWhole, bind_some, bind_is, some_is, skip_whole, before_front, and_whole, map_whole}
+use Rattle.session.proofs.Readers.{IsWhole, bind_some, bind_is, some_is, skip_whole, before_front, and_whole, map_whole}
 use Rattle.session.proofs.Names.{lacks_from, name_before_front}
 use Rattle.session.proofs.Numbers.{number_whole, number_lacks}
 use Rattle.session.proofs.Lines.{IsPlain}

@@ -1,21 +1,20 @@
 -- The header of a script: what is read is so written, and what is so written is read.
-use Rattle.std.proofs.Common.{◌≡◌, ℕ, ◌≤◌, Bool, true, false, cond, eqb, leb, ◌&&◌, ◌||◌, not, List, [], ◌∷◌, ◌++◌, length, codes, Option, Some, None, refl, sym, ap, subst, ◌∙◌, append_assoc, arith}
+use Rattle.std.proofs.Common.{◌≡◌, ℕ, ◌≤◌, Bool, true, false, eqb, leb, not, List, [], ◌∷◌, ◌++◌, length, codes, Some, None, refl, sym, ◌∙◌, arith}
 use Rattle.std.specs.Bool.{Decides}
 use Rattle.std.specs.List.{list_all, AllByRecursion}
 use Rattle.std.specs.Str.Parse.{digits_value}
 use Rattle.std.proofs.lemmas.Bool.{and_parts, and_from, leb-true, le-leb, cond-true}
 use Rattle.std.proofs.lemmas.List.Folds.{list_all-append}
-use Rattle.std.proofs.lemmas.Option.{cond_some}
 use Rattle.session.specs.Words.{is_letter, IsName, IsNaturalWithin}
 use Rattle.session.specs.ScriptText.{IsFileName, IsWordOf, is_part_byte, is_host_byte, MAX_LINE}
-use Rattle.session.specs.Scan.{◌>>=◌, utf8, before, ◌&>◌}
-use Rattle.session.specs.ScriptSteps.{is_word_of, is_file_byte, file_name, client_at, interface_at, servant_at, part, host, id, node, object_at, HeaderValue, header_at}
-use Rattle.session.proofs.Readers.{lacks, IsWhole, bind_some, bind_is, some_is, tested_whole, skip_whole, before_front, and_whole}
+use Rattle.session.specs.Scan.{utf8, before, ◌&>◌}
+use Rattle.session.specs.ScriptSteps.{is_word_of, is_file_byte, file_name, client_at, interface_at, servant_at, part, host, id, node, object_at, HeaderValue, header_from, header_at}
+use Rattle.session.proofs.Readers.{chosen, lacks, IsWhole, bind_some, bind_is, some_is, tested_whole, skip_whole, before_front, and_whole}
 use Rattle.session.proofs.Names.{lacks_from, name_whole, name_before_front}
 use Rattle.session.proofs.Texts.{utf8_takes, utf8_again}
 use Rattle.session.proofs.Numbers.{natural_lacks, natural_within_whole}
 use Rattle.session.proofs.Lines.{IsPlain}
-use Rattle.session.proofs.LineReaders.{chosen, IsLines, line_lines, and_lines}
+use Rattle.session.proofs.LineReaders.{IsLines, line_lines, map_lines, and_lines}
 
 -- ---- words
 
@@ -132,7 +131,7 @@ IsHeader h =
     × ((IsName h.1.1.1.0 × (IsName h.1.1.1.1.0 × IsName h.1.1.1.1.1)) × IsShort (servant_written h.1.1.1))))
 
 abbrev pub header_meant : HeaderText → HeaderValue
-header_meant h = (h.0, (h.1.0, ((id_written h.1.1.0.0, node_meant h.1.1.0.1), h.1.1.1)))
+header_meant h = header_from (h.0, (h.1.0, ((id_written h.1.1.0.0, node_meant h.1.1.0.1), h.1.1.1)))
 
 pub header_read : IsLines header_at header_lines IsHeader header_meant
 unfolding header_at client_at interface_at object_at servant_at
@@ -141,7 +140,7 @@ header_read =
     let interface = skip_whole (codes "interface ") (and_whole (name_before_front 58 (codes ":") refl) name_whole) in
     let object = skip_whole (codes "object ") (and_whole (before_front 64 (codes "tcp -h ") id_whole (λ p are. id_lacks 64 p refl refl are)) node_whole) in
     let servant = skip_whole (codes "servant ") (and_whole (name_before_front 32 (codes "add ") refl) (and_whole (name_before_front 32 [] refl) name_whole)) in
-    and_lines (line_lines client) (and_lines (line_lines interface) (and_lines (line_lines object) (line_lines servant)))
+    map_lines header_from (and_lines (line_lines client) (and_lines (line_lines interface) (and_lines (line_lines object) (line_lines servant))))
 
 -- ---- the lines are plain
 

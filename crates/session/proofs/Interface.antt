@@ -13,8 +13,8 @@ use Rattle.session.specs.Reading.{names_of}
 use Rattle.session.specs.Words.{IsName}
 use Rattle.session.specs.InterfaceText.{InterfaceText, IsInterfaceText, interface_line, MAX_FILE}
 use Rattle.session.specs.InterfaceSteps.{signature_at, names_at, named, is_end, interface_at}
-use Rattle.session.specs.Scan.{Gives}
-use Rattle.session.proofs.Readers.{IsFront, bind_some, bind_is, some_is, skip_front, and_front, map_front}
+use Rattle.session.specs.Scan.{◌>>=◌, Gives}
+use Rattle.session.proofs.Readers.{IsFront, chosen, bind_some, bind_is, some_is, skip_front, and_front, map_front}
 use Rattle.session.proofs.Names.{name_before_front}
 
 -- nothing, or a line feed
@@ -49,30 +49,33 @@ ends : (t : InterfaceText) (bytes rest : List ℕ) → bytes ≡ interface_line 
 ends t bytes rest e (inl none) = inl (e ∙ ap (λ (r : List ℕ). interface_line t ++ r) none ∙ append-nil (interface_line t))
 ends t bytes rest e (inr feed) = inr (e ∙ ap (λ (r : List ℕ). interface_line t ++ r) feed)
 
--- the tests of a whole file
-abbrev passes : List ℕ → InterfaceText × List ℕ → Bool
-passes bytes names = leb (length bytes) MAX_FILE && is_end names.1 && not (bytes_eq names.0.first names.0.second)
+-- the tests of the names and of what stands behind the line
+abbrev passes : InterfaceText × List ℕ → Bool
+passes names = is_end names.1 && not (bytes_eq names.0.first names.0.second)
+
+abbrev judged : InterfaceText × List ℕ → Option InterfaceText
+judged names = cond (passes names) (Some names.0) None
 
 takes : (bytes : List ℕ) (t : InterfaceText) → interface_at bytes ≡ Some t → IsInterfaceText t bytes
 unfolding interface_at
 takes bytes t e =
-    let a = bind_some (names_at bytes) (λ names. cond (passes bytes names) (Some names.0) None) t e in
+    let within = chosen (leb (length bytes) MAX_FILE) (names_at bytes >>= judged) t e in
+    let a = bind_some (names_at bytes) judged t within.1 in
     let n = names_front.takes bytes a.0 a.1 in
-    let c = cond_some (passes bytes a.0) a.0.0 t a.2 in
-    let tests = and_parts (leb (length bytes) MAX_FILE && is_end a.0.1) (not (bytes_eq a.0.0.first a.0.0.second)) c.0 in
-    let first_tests = and_parts (leb (length bytes) MAX_FILE) (is_end a.0.1) tests.0 in
+    let c = cond_some (passes a.0) a.0.0 t a.2 in
+    let tests = and_parts (is_end a.0.1) (not (bytes_eq a.0.0.first a.0.0.second)) c.0 in
     let names : named n.0 ≡ t = sym n.3 ∙ c.1 in
     let whole : bytes ≡ interface_line (named n.0) ++ a.0.1 = n.1 ∙ ap (λ (w : List ℕ). w ++ a.0.1) (written_is n.0) in
     let differ : (named n.0).first ≢ (named n.0).second = λ same. (Decides-not _ (bytes_eq-Decides a.0.0.first a.0.0.second)).0 tests.1 (cc (n.3, same)) in
     subst (λ (t : InterfaceText). IsInterfaceText t bytes) names (record {
-      line = ends (named n.0) bytes a.0.1 whole ((end_decides a.0.1).0 first_tests.1);
+      line = ends (named n.0) bytes a.0.1 whole ((end_decides a.0.1).0 tests.0);
       module_name = n.2.0;
       interface = n.2.1.0;
       func = n.2.1.1.0;
       first = n.2.1.1.1.0;
       second = n.2.1.1.1.1;
       differ = differ;
-      within = leb-true (length bytes) MAX_FILE first_tests.0;
+      within = leb-true (length bytes) MAX_FILE within.0;
     })
 
 begins : (t : InterfaceText) (bytes : List ℕ) → (bytes ≡ interface_line t) ⊎ (bytes ≡ interface_line t ++ codes "\n") → (rest : List ℕ) × (bytes ≡ interface_line t ++ rest) × (is_end rest ≡ true)
@@ -87,8 +90,7 @@ again bytes t is =
     let whole : bytes ≡ written n ++ b.0 = b.1 ∙ ap (λ (w : List ℕ). w ++ b.0) (sym (written_is n)) in
     let names : names_at bytes ≡ Some (t, b.0) = ap names_at whole ∙ names_front.again n b.0 (is.module_name, (is.interface, (is.func, (is.first, is.second)))) in
     let differ : not (bytes_eq t.first t.second) ≡ true = (Decides-not _ (bytes_eq-Decides t.first t.second)).1 is.differ in
-    let tests : passes bytes (t, b.0) ≡ true = and_from _ _ (and_from _ _ (le-leb (length bytes) MAX_FILE is.within) b.2) differ in
-    bind_is (names_at bytes) (λ names. cond (passes bytes names) (Some names.0) None) (t, b.0) names ∙ cond-true (passes bytes (t, b.0)) (Some t) None tests
+    cond-true (leb (length bytes) MAX_FILE) _ _ (le-leb (length bytes) MAX_FILE is.within) ∙ bind_is (names_at bytes) judged (t, b.0) names ∙ cond-true (passes (t, b.0)) (Some t) None (and_from _ _ b.2 differ)
 
 pub is_found : (bytes : List ℕ) (r : Option Read) → Gives names_of r (interface_at bytes) → IfSome r (λ r. IsInterfaceText (names_of r) bytes)
 is_found bytes (Some r) given = takes bytes (names_of r) given

@@ -1,11 +1,10 @@
 -- Readers of whole lines.
-use Rattle.std.proofs.Common.{◌≡◌, ℕ, ◌<◌, ◌≤◌, Bool, true, false, cond, leb, ltb, List, [], ◌∷◌, ◌++◌, length, Option, Some, None, refl, sym, ap, subst, ◌∙◌, append_assoc, arith, inl, inr}
+use Rattle.std.proofs.Common.{◌≡◌, ℕ, ◌<◌, ◌≤◌, true, leb, ltb, List, [], ◌∷◌, ◌++◌, length, Some, None, refl, sym, ap, subst, ◌∙◌, append_assoc, arith, inl, inr}
 use Rattle.std.proofs.lemmas.Bool.{cases_Bool, lt-ltb, leb-true, le-leb, cond-true}
-use Rattle.std.proofs.lemmas.Option.{cond_some}
 use Rattle.session.specs.Scan.{◌>>=◌, Whole, Front, ◌&◌}
 use Rattle.session.specs.ScriptText.{MAX_LINE}
 use Rattle.session.specs.ScriptSteps.{line_at, on_line, lines_of, short}
-use Rattle.session.proofs.Readers.{IsWhole, bind_some, bind_is, some_is}
+use Rattle.session.proofs.Readers.{chosen, IsWhole, bind_some, bind_is, some_is}
 use Rattle.session.proofs.Lines.{first_line, behind_line, lines_of_first}
 
 -- a line that is read is the first one, unless it is too long
@@ -18,7 +17,10 @@ on_line_is read bytes h =
       | inr long ↦ rw (some, long) refl
     ]
 
-pub on_line_none : {V : Type 0} (read : Whole V) (x : V × List ℕ) → on_line read [] ≡ Some x → ⊥
+on_line_gives : {V : Type 0} (read : Whole V) (bytes : List ℕ) (v : V) → 0 < length bytes → short read (first_line bytes) ≡ Some v → on_line read bytes ≡ Some (v, behind_line bytes)
+on_line_gives read bytes v h e = on_line_is read bytes h ∙ bind_is _ (λ v. Some (v, behind_line bytes)) v e
+
+on_line_none : {V : Type 0} (read : Whole V) (x : V × List ℕ) → on_line read [] ≡ Some x → ⊥
 unfolding line_at
 on_line_none read x e = cc
 
@@ -26,11 +28,6 @@ on_line_none read x e = cc
 pub record IsLines {V T : Type 0} (read : Front V) (lines : T → List (List ℕ)) (Fits : T → Type 0) (value : T → V) : Type 0 where
   pub takes : (bytes : List ℕ) (x : V × List ℕ) → read bytes ≡ Some x → (t : T) × (lines_of bytes ≡ lines t ++ lines_of x.1) × Fits t × (x.0 ≡ value t)
   pub again : (t : T) (bytes : List ℕ) (others : List (List ℕ)) → Fits t → lines_of bytes ≡ lines t ++ others → (rest : List ℕ) × (read bytes ≡ Some (value t, rest)) × (lines_of rest ≡ others)
-
--- what was chosen by a test, where something was found
-pub chosen : {A : Type 0} (b : Bool) (o : Option A) (v : A) → cond b o None ≡ Some v → (b ≡ true) × (o ≡ Some v)
-chosen true o v e = (refl, e)
-chosen false o v e = absurd cc
 
 join_lines : (a x b y c : List (List ℕ)) → a ≡ x ++ b → b ≡ y ++ c → a ≡ (x ++ y) ++ c
 join_lines a x b y c p q = p ∙ ap (λ (t : List (List ℕ)). x ++ t) q ∙ sym (append_assoc x y c)
@@ -63,7 +60,20 @@ module _ {V T : Type 0} {read : Whole V} {write : T → List ℕ} {Fits : T → 
           let line : first_line (c ∷ cs) ≡ write t = cc in
           let rest : lines_of (behind_line (c ∷ cs)) ≡ others = cc in
           let read_again : short read (first_line (c ∷ cs)) ≡ Some (value t) = ap (short read) line ∙ short_again exact t fits.0 fits.1 in
-          (behind_line (c ∷ cs), on_line_is read (c ∷ cs) (omega arith) ∙ bind_is _ (λ v. Some (v, behind_line (c ∷ cs))) (value t) read_again, rest)
+          (behind_line (c ∷ cs), on_line_gives read (c ∷ cs) (value t) (omega arith) read_again, rest)
+
+module _ {V T : Type 0} {read : Front V} {lines : T → List (List ℕ)} {Fits : T → Type 0} {value : T → V} where
+  -- what was read, made into another value
+  pub map_lines : {W : Type 0} (make : V → W) → IsLines read lines Fits value → IsLines (λ bytes. read bytes >>= λ x. Some (make x.0, x.1)) lines Fits (λ t. make (value t))
+  map_lines {W} make exact = record {
+    takes = λ bytes x e.
+        let a = bind_some (read bytes) (λ x. Some (make x.0, x.1)) x e in
+        let t = exact.takes bytes a.0 a.1 in
+        subst (λ (y : W × List ℕ). (t : T) × (lines_of bytes ≡ lines t ++ lines_of y.1) × Fits t × (y.0 ≡ make (value t))) (some_is (make a.0.0, a.0.1) x a.2) (t.0, t.1, t.2, ap make t.3);
+    again = λ t bytes others fits e.
+        let a = exact.again t bytes others fits e in
+        (a.0, bind_is _ (λ x. Some (make x.0, x.1)) (value t, a.0) a.1, a.2);
+  }
 
 module _ {V T W S : Type 0} {read : Front V} {lines : T → List (List ℕ)} {Fits : T → Type 0} {value : T → V} {next : Front W} {more : S → List (List ℕ)} {Suits : S → Type 0} {meaning : S → W} where
   pub and_lines : IsLines read lines Fits value → IsLines next more Suits meaning → IsLines (read & next) (λ (t : T × S). lines t.0 ++ more t.1) (λ (t : T × S). Fits t.0 × Suits t.1) (λ (t : T × S). (value t.0, meaning t.1))

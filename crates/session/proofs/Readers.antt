@@ -1,5 +1,5 @@
 -- What is read is so written, and what is so written is read: for each way to join readers.
-use Rattle.std.proofs.Common.{◌≡◌, ℕ, Bool, true, eqb, ltb, not, List, [], ◌∷◌, ◌++◌, length, get_or, take, drop, Option, Some, None, refl, sym, ap, subst, ◌∙◌, append_assoc, arith}
+use Rattle.std.proofs.Common.{cond, false, ◌≡◌, ℕ, Bool, true, eqb, ltb, not, List, [], ◌∷◌, ◌++◌, length, get_or, take, drop, Option, Some, None, refl, sym, ap, subst, ◌∙◌, append_assoc, arith}
 use Rattle.std.specs.Bool.{Decides}
 use Rattle.std.specs.List.{list_all, position_or_len, position}
 use Rattle.std.specs.Str.{bytes_eq}
@@ -28,6 +28,11 @@ pub record IsFront {V T : Type 0} (read : Front V) (write : T → List ℕ) (Fit
 pub bind_some : {A B : Type 0} (r : Option A) (f : A → Option B) (y : B) → (r >>= f) ≡ Some y → (x : A) × (r ≡ Some x) × (f x ≡ Some y)
 bind_some (Some x) f y e = (x, refl, e)
 bind_some None f y e = absurd cc
+
+-- what was chosen by a test, where something was found
+pub chosen : {A : Type 0} (b : Bool) (o : Option A) (v : A) → cond b o None ≡ Some v → (b ≡ true) × (o ≡ Some v)
+chosen true o v e = (refl, e)
+chosen false o v e = absurd cc
 
 abbrev found : {A : Type 0} → A → Option A
 found x = Some x

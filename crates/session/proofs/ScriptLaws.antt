@@ -1,21 +1,17 @@
 -- Scripts: what is read is so written, and what is so written is read.
-use Rattle.std.proofs.Common.{◌≡◌, ℕ, ◌+◌, ◌≤◌, Bool, true, false, cond, leb, ◌&&◌, List, [], ◌∷◌, ◌++◌, length, codes, map, Option, Some, None, Result, Ok, Err, refl, sym, ap, subst, ◌∙◌, append_assoc, arith, ◌⊎◌, inl, inr}
-use Rattle.std.specs.Prelude.{IfOk, IfSome, IsSomeAnd, count_by, fold}
+use Rattle.std.proofs.Common.{◌≡◌, ℕ, ◌+◌, ◌≤◌, cond, leb, List, [], ◌∷◌, ◌++◌, length, map, Option, Some, None, refl, sym, ap, subst, ◌∙◌, append_assoc}
+use Rattle.std.specs.Prelude.{IfSome, IsSomeAnd, count_by, fold}
 use Rattle.std.specs.List.{AllByRecursion}
-use Rattle.std.proofs.lemmas.Bool.{and_parts, and_from, leb-true, le-leb, cond-true}
-use Rattle.std.proofs.lemmas.List.Folds.{list_all-append}
+use Rattle.std.proofs.lemmas.Bool.{leb-true, le-leb, cond-true}
 use Rattle.std.proofs.lemmas.Option.{cond_some}
 use Rattle.session.specs.declared.script.ScriptText.{ScriptText as ScriptStruct}
-use Rattle.session.specs.Words.{is_letter, IsName}
 use Rattle.session.specs.InterfaceText.{MAX_FILE}
 use Rattle.session.specs.ScriptText.{EventText, ObjectText, ScriptText, object_id, client_line, interface_header, object_line, servant_line, event_line, script_lines, script_text, is_host_byte, IsObject, IsEvent, is_call, IsScriptText, MAX_LINE, MAX_CALLS}
 use Rattle.session.specs.ScriptText as script
 use Rattle.session.specs.Reading.{EventValue, event_meant, Reads}
 use Rattle.session.specs.Scan.{◌>>=◌, Gives}
-use Rattle.session.specs.ScriptSteps.{lines_of, events_on, is_call_value, is_file_byte, HeaderValue, header_at, script_of, script_at}
-use Rattle.session.proofs.Readers.{lacks, bind_some, bind_is, some_is}
-use Rattle.session.proofs.Names.{lacks_from}
-use Rattle.session.proofs.Numbers.{natural_lacks}
+use Rattle.session.specs.ScriptSteps.{lines_of, events_on, is_call_value, HeaderValue, header_at, script_of, script_at}
+use Rattle.session.proofs.Readers.{chosen, bind_some, bind_is, some_is}
 use Rattle.session.proofs.Lines.{IsPlain, IsJoined, lines_join, joined_lines}
 use Rattle.session.proofs.HeaderLaws.{id_written, HeaderText, client_written, interface_written, object_written, servant_written, header_lines, IsHeader, header_meant, header_read, header_plain}
 use Rattle.session.proofs.EventLaws.{event_plain, IsShortEvent, events_take, events_again}
@@ -127,13 +123,9 @@ lines_from : (s : ScriptText) (bytes : List ℕ) → IsScriptText s bytes → li
 unfolding script_text
 lines_from s bytes is = joined_lines bytes (script_lines s) is.lines (lines_plain s bytes is) ∙ sym (lines_are s)
 
--- the limits of a whole script
-abbrev passes : List ℕ → List EventValue → Bool
-passes bytes events = leb (length bytes) MAX_FILE && leb (count_by is_call_value events) MAX_CALLS
-
 -- what is read of the lines behind the header
-abbrev behind : List ℕ → HeaderValue × List ℕ → Option (HeaderValue × List EventValue)
-behind bytes header = events_on (lines_of header.1) >>= λ events. cond (passes bytes events) (Some (header.0, events)) None
+abbrev behind : HeaderValue × List ℕ → Option (HeaderValue × List EventValue)
+behind header = events_on (lines_of header.1) >>= λ events. cond (leb (count_by is_call_value events) MAX_CALLS) (Some (header.0, events)) None
 
 again : (s : ScriptText) (bytes : List ℕ) → IsScriptText s bytes → script_at bytes ≡ Some (meaning s)
 unfolding script_at
@@ -142,10 +134,10 @@ again s bytes is =
     let events : events_on (lines_of header.0) ≡ Some (map event_meant s.events) =
     ap events_on header.2 ∙ events_again s.events (events_short s.events is.events (lines_short s bytes is).1.1.1.1) in
     let calls : count_by is_call_value (map event_meant s.events) ≤ MAX_CALLS = subst (λ (n : ℕ). n ≤ MAX_CALLS) (calls_are s.events) is.calls in
-    let limits : passes bytes (map event_meant s.events) ≡ true = and_from _ _ (le-leb _ _ is.within) (le-leb _ _ calls) in
-    bind_is (header_at bytes) (behind bytes) (header_meant (header_text s), header.0) header.1
-    ∙ bind_is _ (λ events. cond (passes bytes events) (Some (header_meant (header_text s), events)) None) (map event_meant s.events) events
-    ∙ cond-true (passes bytes (map event_meant s.events)) (Some (meaning s)) None limits
+    cond-true (leb (length bytes) MAX_FILE) _ _ (le-leb _ _ is.within)
+    ∙ bind_is (header_at bytes) behind (header_meant (header_text s), header.0) header.1
+    ∙ bind_is _ (λ events. cond (leb (count_by is_call_value events) MAX_CALLS) (Some (header_meant (header_text s), events)) None) (map event_meant s.events) events
+    ∙ cond-true (leb (count_by is_call_value (map event_meant s.events)) MAX_CALLS) (Some (meaning s)) None (le-leb _ _ calls)
 
 -- ---- a script that is read
 
@@ -176,31 +168,31 @@ both_are x y a b p q = cc
 takes : (bytes : List ℕ) (v : HeaderValue × List EventValue) → script_at bytes ≡ Some v → (s : ScriptText) × IsScriptText s bytes × (v ≡ meaning s)
 unfolding script_at
 takes bytes v e =
-    let a = bind_some (header_at bytes) (behind bytes) v e in
-    let b = bind_some (events_on (lines_of a.0.1)) (λ events. cond (passes bytes events) (Some (a.0.0, events)) None) v a.2 in
-    let c = cond_some (passes bytes b.0) (a.0.0, b.0) v b.2 in
-    let limits = and_parts (leb (length bytes) MAX_FILE) (leb (count_by is_call_value b.0) MAX_CALLS) c.0 in
+    let within = chosen (leb (length bytes) MAX_FILE) (header_at bytes >>= behind) v e in
+    let a = bind_some (header_at bytes) behind v within.1 in
+    let b = bind_some (events_on (lines_of a.0.1)) (λ events. cond (leb (count_by is_call_value events) MAX_CALLS) (Some (a.0.0, events)) None) v a.2 in
+    let c = cond_some (leb (count_by is_call_value b.0) MAX_CALLS) (a.0.0, b.0) v b.2 in
     let h = header_read.takes bytes a.0 a.1 in
     let ts = events_take (lines_of a.0.1) b.0 b.1 in
     let lines : lines_of bytes ≡ header_lines h.0 ++ map event_line ts.0 = h.1 ∙ ap (λ (r : List (List ℕ)). header_lines h.0 ++ r) ts.1 in
     let count : count_by is_call_value b.0 ≡ count_by is_call ts.0 = ap (count_by is_call_value) ts.3 ∙ sym (calls_are ts.0) in
-    let calls : count_by is_call ts.0 ≤ MAX_CALLS = subst (λ (n : ℕ). n ≤ MAX_CALLS) count (leb-true _ _ limits.1) in
-    (made h.0 ts.0, written h.0 ts.0 bytes h.2 ts.2 lines (leb-true _ _ limits.0) calls, sym c.1 ∙ both_are a.0.0 (header_meant h.0) b.0 (map event_meant ts.0) h.3 ts.3)
+    let calls : count_by is_call ts.0 ≤ MAX_CALLS = subst (λ (n : ℕ). n ≤ MAX_CALLS) count (leb-true _ _ c.0) in
+    (made h.0 ts.0, written h.0 ts.0 bytes h.2 ts.2 lines (leb-true _ _ within.0) calls, sym c.1 ∙ both_are a.0.0 (header_meant h.0) b.0 (map event_meant ts.0) h.3 ts.3)
 
 -- ---- the struct
 
 reads : (r : ScriptStruct) (s : ScriptText) → script_of r ≡ meaning s → Reads r s
 reads r s e = record {
-  client = ap (λ (v : HeaderValue × List EventValue). v.0.0) e;
-  module_name = ap (λ (v : HeaderValue × List EventValue). v.0.1.0.0) e;
-  interface = ap (λ (v : HeaderValue × List EventValue). v.0.1.0.1) e;
-  id = ap (λ (v : HeaderValue × List EventValue). v.0.1.1.0.0) e ∙ id_is s.object;
-  host = ap (λ (v : HeaderValue × List EventValue). v.0.1.1.0.1.0) e;
-  port = ap (λ (v : HeaderValue × List EventValue). v.0.1.1.0.1.1.0) e;
-  timeout = ap (λ (v : HeaderValue × List EventValue). v.0.1.1.0.1.1.1) e;
-  func = ap (λ (v : HeaderValue × List EventValue). v.0.1.1.1.0) e;
-  left = ap (λ (v : HeaderValue × List EventValue). v.0.1.1.1.1.0) e;
-  right = ap (λ (v : HeaderValue × List EventValue). v.0.1.1.1.1.1) e;
+  client = ap (λ (v : HeaderValue × List EventValue). v.0.client) e;
+  module_name = ap (λ (v : HeaderValue × List EventValue). v.0.module_name) e;
+  interface = ap (λ (v : HeaderValue × List EventValue). v.0.interface) e;
+  id = ap (λ (v : HeaderValue × List EventValue). v.0.id) e ∙ id_is s.object;
+  host = ap (λ (v : HeaderValue × List EventValue). v.0.host) e;
+  port = ap (λ (v : HeaderValue × List EventValue). v.0.port) e;
+  timeout = ap (λ (v : HeaderValue × List EventValue). v.0.timeout) e;
+  func = ap (λ (v : HeaderValue × List EventValue). v.0.func) e;
+  left = ap (λ (v : HeaderValue × List EventValue). v.0.left) e;
+  right = ap (λ (v : HeaderValue × List EventValue). v.0.right) e;
   events = ap (λ (v : HeaderValue × List EventValue). v.1) e;
 }
 

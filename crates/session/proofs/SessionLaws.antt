@@ -17,7 +17,7 @@ use Rattle.session.specs.declared.loaded.Rule.TheVariants.{Add}
 use Rattle.session.specs.declared.script.ScriptText.{ScriptText as ScriptStruct}
 use Rattle.session.specs.InterfaceText.{InterfaceText}
 use Rattle.session.specs.Loading.{Agree, IsParameter, IsEventOf, events_from, place_of, loaded_of}
-use Rattle.session.specs.Numbers.{is_int, int_of}
+use Rattle.session.specs.Reading.{is_int, int_of}
 use Rattle.session.specs.Reading.{EventValue, event_of, event_meant, Reads}
 use Rattle.session.specs.Reading as value
 use Rattle.session.specs.Scan.{◌>>=◌, Gives}

@@ -67,6 +67,7 @@ abbrev pub ◌&>◌ : {V W : Type 0} → Front V → Whole W → Whole (V × W)
   w ← next v.1
   Some (v.0, w)
 
+-- one of the words that are no names
 unfoldable pub is_keyword : List ℕ → Bool
 is_keyword bytes = list_any (λ word. bytes_eq word bytes) keywords
 
@@ -74,12 +75,14 @@ is_keyword bytes = list_any (λ word. bytes_eq word bytes) keywords
 unfoldable pub is_name : List ℕ → Bool
 is_name bytes = nat_le 1 (length bytes) && nat_le (length bytes) 32 && list_all is_letter bytes && not (is_keyword bytes)
 
+-- the bytes, if they are a name
 unfoldable pub name : Whole (List ℕ)
 name = tested is_name
 
+-- a name before the literal
 unfoldable pub name_before : List ℕ → Front (List ℕ)
 name_before literal = before literal name
 
--- a text
+-- the bytes, if they are a text
 unfoldable pub utf8 : Whole (List ℕ)
 utf8 = tested is_utf8

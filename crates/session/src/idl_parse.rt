@@ -3,14 +3,12 @@
 ghost use Rattle.std.specs.Prelude.{◌≡◌, IfSome, IsSomeAnd, List, ℕ};
 ghost use Rattle.session.specs.InterfaceText.{IsInterfaceText};
 ghost use Rattle.session.specs.InterfaceText as idl;
-ghost use Rattle.session.specs.InterfaceSteps.{signature_at, names_at, is_end, interface_at};
+ghost use Rattle.session.specs.InterfaceSteps.{signature_of, signature_at, names_at};
+ghost use Rattle.session.specs.InterfaceSteps.{is_end, interface_at};
 ghost use Rattle.session.specs.Reading.{names_of};
 ghost use Rattle.session.specs.Scan.{Gives};
 
-use crate::scan::{after, name_before};
-
-/// The longest file that is read, in bytes.
-pub const MAX_FILE: usize = 1_048_576;
+use crate::scan::{MAX_FILE, after, name_before};
 
 /// What an interface file of the accepted form names.
 #[derive(Clone, Copy, Debug)]
@@ -33,7 +31,7 @@ struct Signature<'a> {
 /// The function's names, up to the file's last brace, and what stands behind it.
 #[tactic(auto, unfolding(crate::specs::InterfaceSteps::signature_at))]
 fn read_signature(text: &[u8]) -> Option<(Signature<'_>, &[u8])>
-    ensures { Gives (λ x. ((x.0.func.now, (x.0.first.now, x.0.second.now)), x.1.now)) result (signature_at text.now) }
+    ensures { Gives (λ x. (signature_of x.0, x.1.now)) result (signature_at text.now) }
 {
     let (func, rest) = name_before(text, b"(int ")?;
     let (first, rest) = name_before(rest, b", int ")?;
@@ -77,9 +75,11 @@ fn is_end(rest: &[u8]) -> bool
 fn read_file(text: &[u8]) -> Option<InterfaceText<'_>>
     ensures { Gives names_of result (interface_at text.now) }
 {
+    if text.len() > MAX_FILE {
+        return None;
+    }
     let (names, rest) = read_names(text)?;
-    let accepted = text.len() <= MAX_FILE && is_end(rest) && names.first != names.second;
-    accepted.then_some(names)
+    (is_end(rest) && names.first != names.second).then_some(names)
 }
 
 /// The names of the interface file, if it has the accepted form.
@@ -87,7 +87,11 @@ pub fn read_interface(text: &[u8]) -> Option<InterfaceText<'_>>
     // What is read is so written.
     ensures found { IfSome result (λ r. IsInterfaceText (names_of r) text.now) }
     // What is so written is read.
-    ensures only { (t : idl.InterfaceText) → IsInterfaceText t text.now → IsSomeAnd result (λ r. names_of r ≡ t) }
+    ensures only { (t : idl.InterfaceText) → IsInterfaceText t text.now
+        → IsSomeAnd result (λ r. names_of r ≡ t) }
 {
     read_file(text)
 }
+
+#[cfg(test)]
+mod tests;

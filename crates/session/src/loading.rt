@@ -4,7 +4,7 @@ ghost use Rattle.std.specs.Prelude.{◌≡◌, IfOk, IfSome};
 ghost use Rattle.session.specs.LoadAnswers.{answer_of, IsExact, IsGiven, IsOnlyGiven, IsRefusedBy, LoadHasCause};
 ghost use Rattle.session.specs.Loading.{IsLoaded, refusal_line};
 
-use crate::idl_parse::MAX_FILE;
+use crate::scan::MAX_FILE;
 use crate::{LoadFault, Loaded, Mode, read_interface, read_script};
 use session::session_of;
 use std::alloc::{AllocError, Global};

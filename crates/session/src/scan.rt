@@ -4,11 +4,15 @@
 ghost use Rattle.std.specs.Prelude.{◌≡◌, ◌<◌, ◌==◌, length, position, IfSome};
 ghost use Rattle.std.specs.List.{list_all};
 ghost use Rattle.session.specs.Words.{is_letter};
-ghost use Rattle.session.specs.Scan.{Gives, after, word_before, is_keyword, is_name, name, name_before, utf8};
+ghost use Rattle.session.specs.Scan.{Gives, after, word_before, is_keyword, is_name};
+ghost use Rattle.session.specs.Scan.{name, name_before, utf8};
 
 use std::str;
 
-/// The longest name.
+/// The longest file that is read, in bytes.
+pub const MAX_FILE: usize = 1_048_576;
+
+/// The longest name, in bytes.
 const MAX_NAME: usize = 32;
 
 /// The words of the interface language, which are no names.

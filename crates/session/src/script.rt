@@ -7,7 +7,7 @@ ghost use Rattle.session.specs.ScriptText.{IsScriptText};
 ghost use Rattle.session.specs.ScriptText as written;
 ghost use Rattle.session.specs.ScriptSteps.{header_of, script_of, script_at};
 
-use crate::idl_parse::MAX_FILE;
+use crate::scan::MAX_FILE;
 use std::alloc::{AllocError, Global};
 
 mod event;
@@ -67,13 +67,16 @@ impl<'a> ScriptText<'a> {
 fn read_file(alloc: Global, text: &[u8]) -> Result<Option<ScriptText<'_>>, AllocError>
     ensures { IfOk result (λ r. Gives script_of r (script_at text.now)) }
 {
+    if text.len() > MAX_FILE {
+        return Ok(None);
+    }
     let Some((header, rest)) = read_header(text) else {
         return Ok(None);
     };
     let Some(events) = read_events(alloc, rest)? else {
         return Ok(None);
     };
-    if text.len() > MAX_FILE || count_calls(&events) > MAX_CALLS {
+    if count_calls(&events) > MAX_CALLS {
         return Ok(None);
     }
     Ok(Some(ScriptText::new(header, events)))
@@ -82,9 +85,14 @@ fn read_file(alloc: Global, text: &[u8]) -> Result<Option<ScriptText<'_>>, Alloc
 /// What the script says, if it has the accepted form.
 pub fn read_script(alloc: Global, text: &[u8]) -> Result<Option<ScriptText<'_>>, AllocError>
     // What is read is so written.
-    ensures found { IfOk result (λ r. IfSome r (λ r. (s : written.ScriptText) × IsScriptText s text.now × Reads r s)) }
+    ensures found { IfOk result (λ r. IfSome r (λ r.
+        (s : written.ScriptText) × IsScriptText s text.now × Reads r s)) }
     // What is so written is read.
-    ensures only { (s : written.ScriptText) → IsScriptText s text.now → IfOk result (λ r. IsSomeAnd r (λ r. Reads r s)) }
+    ensures only { (s : written.ScriptText) → IsScriptText s text.now
+        → IfOk result (λ r. IsSomeAnd r (λ r. Reads r s)) }
 {
     read_file(alloc, text)
 }
+
+#[cfg(test)]
+mod tests;

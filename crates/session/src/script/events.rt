@@ -10,7 +10,8 @@ use std::alloc::{AllocError, Global};
 
 /// The events of the lines.
 pub fn read_events(alloc: Global, text: &[u8]) -> Result<Option<Vec<EventText<'_>>>, AllocError>
-    ensures { IfOk result (λ r. Gives (λ v. map event_of v.items) r (events_on (lines_of text.now))) }
+    ensures { IfOk result (λ r.
+        Gives (λ v. map event_of v.items) r (events_on (lines_of text.now))) }
 {
     let mut events = Vec::new(alloc);
     let mut rest = text;

@@ -3,7 +3,9 @@
 ghost use Rattle.std.specs.Prelude.{◌≡◌, ◌≢◌};
 ghost use Rattle.std.specs.List.{list_all};
 ghost use Rattle.session.specs.Scan.{Gives};
-ghost use Rattle.session.specs.ScriptSteps.{is_file_byte, file_name, client_at, interface_at, servant_at, header_of, header_at};
+ghost use Rattle.session.specs.ScriptSteps.{is_file_byte, file_name, client_at};
+ghost use Rattle.session.specs.ScriptSteps.{interface_of, interface_at, rule_of, servant_at};
+ghost use Rattle.session.specs.ScriptSteps.{header_of, header_at};
 
 use crate::scan::{after, name, name_before, utf8};
 use crate::script::lines::split_line;
@@ -61,7 +63,7 @@ fn client_line(text: &[u8]) -> Option<(&str, &[u8])>
 
 #[tactic(auto, unfolding(crate::specs::ScriptSteps::interface_at))]
 fn interface_line(text: &[u8]) -> Option<(InterfaceName<'_>, &[u8])>
-    ensures { Gives (λ x. ((x.0.module.now, x.0.interface.now), x.1.now)) result (interface_at text.now) }
+    ensures { Gives (λ x. (interface_of x.0, x.1.now)) result (interface_at text.now) }
 {
     let (line, rest) = split_line(text)?;
     let (module, interface) = name_before(after(line, b"interface ")?, b"::")?;
@@ -71,7 +73,7 @@ fn interface_line(text: &[u8]) -> Option<(InterfaceName<'_>, &[u8])>
 
 #[tactic(auto, unfolding(crate::specs::ScriptSteps::servant_at))]
 fn servant_line(text: &[u8]) -> Option<(RuleText<'_>, &[u8])>
-    ensures { Gives (λ x. ((x.0.func.now, (x.0.left.now, x.0.right.now)), x.1.now)) result (servant_at text.now) }
+    ensures { Gives (λ x. (rule_of x.0, x.1.now)) result (servant_at text.now) }
 {
     let (line, rest) = split_line(text)?;
     let (func, words) = name_before(after(line, b"servant ")?, b" add ")?;

@@ -2,7 +2,8 @@
 
 ghost use Rattle.std.specs.Prelude.{◌≡◌, ◌≤◌, true, IfSome};
 ghost use Rattle.std.specs.List.{list_all};
-ghost use Rattle.session.specs.Numbers.{natural, natural_within, int_of};
+ghost use Rattle.session.specs.Numbers.{natural, natural_within};
+ghost use Rattle.session.specs.Reading.{int_of};
 ghost use Rattle.session.specs.Scan.{Gives};
 ghost use Rattle.session.specs.Words.{is_digit, is_natural, is_number};
 
@@ -51,11 +52,11 @@ pub fn natural_within(text: &[u8], low: u32, high: u32) -> Option<u32>
     ensures within { IfSome result (λ n. n ≤ high) }
 {
     let number = natural(text)?;
-    (low <= number && number <= high).then_some(number)
+    (low..=high).contains(&number).then_some(number)
 }
 
 /// The int that a number's text means; none where the number is no int.
-#[tactic(auto, unfolding(crate::specs::Numbers::int_of))]
+#[tactic(auto, unfolding(crate::specs::Reading::int_of))]
 pub fn int_of(text: &[u8]) -> Option<i32>
     requires { is_number text.now ≡ true }
     ensures { result ≡ int_of text.now }

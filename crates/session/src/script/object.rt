@@ -4,7 +4,7 @@ ghost use Rattle.std.specs.Prelude.{◌≡◌, ◌<◌, length};
 ghost use Rattle.std.specs.List.{list_all};
 ghost use Rattle.session.specs.Scan.{Gives};
 ghost use Rattle.session.specs.ScriptText.{is_part_byte, is_host_byte};
-ghost use Rattle.session.specs.ScriptSteps.{part, host, id, node, object_at};
+ghost use Rattle.session.specs.ScriptSteps.{part, host, id, node, object_of, object_at};
 
 use crate::scan::{after, word_before};
 use crate::script::lines::split_line;
@@ -94,7 +94,7 @@ fn read_node(text: &[u8]) -> Option<Node<'_>>
 /// The object of the line in front, and what stands behind the line.
 #[tactic(auto, unfolding(crate::specs::ScriptSteps::object_at))]
 pub fn object_line(text: &[u8]) -> Option<(ObjectText<'_>, &[u8])>
-    ensures { Gives (λ x. ((x.0.id.now, (x.0.host.now, (x.0.port, x.0.timeout))), x.1.now)) result (object_at text.now) }
+    ensures { Gives (λ x. (object_of x.0, x.1.now)) result (object_at text.now) }
 {
     let (line, rest) = split_line(text)?;
     let (word, behind) = word_before(after(line, b"object ")?, b"@tcp -h ")?;
