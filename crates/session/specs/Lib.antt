@@ -6,3 +6,4 @@ pub mod Sessions
 pub mod Services
 pub mod Courses
 pub mod Planned
+pub mod ReportText
