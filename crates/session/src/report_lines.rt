@@ -3,6 +3,8 @@
 mod calls;
 mod lines;
 mod links;
+#[cfg(test)]
+mod tests;
 mod words;
 
 ghost use Rattle.std.specs.Prelude.{◌≡◌, IfOk};
@@ -17,8 +19,8 @@ pub fn report_text(alloc: Global, loaded: &Loaded, report: &Report) -> Result<Ve
     ensures { IfOk result (λ text. text.items ≡ report_text_of loaded.now report.now) }
 {
     let mut lines = Lines::new(alloc);
-    lines.calls(loaded, report.calls.as_slice())?;
-    lines.links(report.calls.as_slice(), report.links.as_slice())?;
-    lines.done(report.calls.as_slice())?;
+    lines.put_calls(loaded, report.calls.as_slice())?;
+    lines.put_links(report.calls.as_slice(), report.links.as_slice())?;
+    lines.put_done(report.calls.as_slice())?;
     Ok(lines.into_text())
 }

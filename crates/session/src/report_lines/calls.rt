@@ -23,29 +23,29 @@ fn func_name(loaded: &Loaded, func: u32) -> &[u8]
 
 impl Lines {
     /// Adds the lines of the calls.
-    pub fn calls(&mut self, loaded: &Loaded, rows: &[Row]) -> Result<(), AllocError>
+    pub fn put_calls(&mut self, loaded: &Loaded, rows: &[Row]) -> Result<(), AllocError>
         ensures { OnOk result (self.new ≡ self.old ++ flat_map (call_line loaded.now) rows.now) }
     {
         for row in rows {
-            self.call(loaded, row)?;
+            self.put_call(loaded, row)?;
         }
         Ok(())
     }
 
     #[tactic(auto, unfolding(crate::specs::ReportText::call_line))]
-    fn call(&mut self, loaded: &Loaded, row: &Row) -> Result<(), AllocError>
+    fn put_call(&mut self, loaded: &Loaded, row: &Row) -> Result<(), AllocError>
         ensures { OnOk result (self.new ≡ self.old ++ call_line loaded.now row.now) }
     {
         let (call, line, end) = (row.call, row.line, &row.end);
         self.show(format_args!("call {call} line {line} "))?;
         self.put(func_name(loaded, row.func))?;
-        self.pick(&row.pick)?;
-        self.id(&row.id)?;
+        self.put_pick(&row.pick)?;
+        self.put_id(&row.id)?;
         self.show(format_args!(" {end}\n"))
     }
 
     #[tactic(auto, unfolding(crate::specs::ReportText::pick_text))]
-    fn pick(&mut self, pick: &Option<PickNote>) -> Result<(), AllocError>
+    fn put_pick(&mut self, pick: &Option<PickNote>) -> Result<(), AllocError>
         ensures { OnOk result (self.new ≡ self.old ++ pick_text pick.now) }
     {
         match pick {
@@ -55,7 +55,7 @@ impl Lines {
     }
 
     #[tactic(auto, unfolding(crate::specs::ReportText::id_text))]
-    fn id(&mut self, id: &Option<CallId>) -> Result<(), AllocError>
+    fn put_id(&mut self, id: &Option<CallId>) -> Result<(), AllocError>
         ensures { OnOk result (self.new ≡ self.old ++ id_text id.now) }
     {
         match id {
@@ -66,7 +66,7 @@ impl Lines {
 
     /// Adds the last line.
     #[tactic(auto, unfolding(crate::specs::ReportText::done_line))]
-    pub fn done(&mut self, rows: &[Row]) -> Result<(), AllocError>
+    pub fn put_done(&mut self, rows: &[Row]) -> Result<(), AllocError>
         ensures { OnOk result (self.new ≡ self.old ++ done_line rows.now) }
     {
         let calls = rows.len();

@@ -1,5 +1,6 @@
 ghost use Rattle.std.specs.Prelude.{◌≡◌, [], ◌++◌, OnOk};
 ghost use Rattle.std.specs.Fmt.{AppendsText};
+ghost use Rattle.hex.specs.Hex.{encode_upper};
 
 use std::alloc::{AllocError, Global};
 use std::fmt::Display;
@@ -37,10 +38,6 @@ impl Lines {
         text
     }
 
-    pub fn alloc(&self) -> Global {
-        self.alloc
-    }
-
     /// Adds bytes as they are.
     pub fn put(&mut self, bytes: &[u8]) -> Result<(), AllocError>
         ensures { OnOk result (self.new ≡ self.old ++ bytes.now) }
@@ -54,5 +51,13 @@ impl Lines {
     {
         let piece = piece.to_string(self.alloc)?;
         self.put(piece.as_bytes())
+    }
+
+    /// Adds bytes in hexadecimal.
+    pub fn put_hex(&mut self, bytes: &[u8]) -> Result<(), AllocError>
+        ensures { OnOk result (self.new ≡ self.old ++ encode_upper bytes.now) }
+    {
+        let digits = hex::encode_upper(self.alloc, bytes)?;
+        self.put(digits.as_bytes())
     }
 }
