@@ -14,3 +14,4 @@ pub mod Numbers
 pub mod ScriptSteps
 pub mod LoadAnswers
 pub mod SessionSteps
+pub mod ReportText
