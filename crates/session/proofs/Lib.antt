@@ -7,3 +7,16 @@ pub mod FramesArePackets
 pub mod TrackLemmas
 pub mod Deliveries
 pub mod Moved
+pub mod Readers
+pub mod Names
+pub mod Interface
+pub mod Texts
+pub mod Numbers
+pub mod Lines
+pub mod LineReaders
+pub mod EventsLoop
+pub mod HeaderLaws
+pub mod EventLaws
+pub mod ScriptLaws
+pub mod SessionLaws
+pub mod LoadingLaws

@@ -8,3 +8,11 @@ pub mod Courses
 pub mod Planned
 pub mod Loading
 pub mod Tracks
+pub mod Scan
+pub mod InterfaceSteps
+pub mod Reading
+pub mod Numbers
+pub mod ScriptSteps
+pub mod LoadAnswers
+pub mod SessionSteps
+pub mod ReportText

@@ -2,16 +2,29 @@
 #![tactic(auto)]
 
 mod bodies;
+mod idl_parse;
 mod link_log;
+mod load_fault;
 mod loaded;
+mod loading;
+mod mode;
 mod pending;
 mod plan;
 mod report;
+mod report_lines;
 mod rpc_packet;
+mod scan;
+mod script;
 mod servant_core;
 mod service;
 mod tars_frames;
 
+pub use idl_parse::{InterfaceText, read_interface};
 pub use link_log::{GotFate, GotRow, LinkLog, SentRow};
+pub use load_fault::LoadFault;
 pub use loaded::{CallSpec, Endpoint, Event, FuncRule, Loaded, ObjectName, Rule};
+pub use loading::load;
+pub use mode::Mode;
 pub use report::{CallId, End, PickNote, Refusal, Report, RouteStep, Row, Why};
+pub use report_lines::report_text;
+pub use script::{EventText, ObjectText, ScriptText, read_script};

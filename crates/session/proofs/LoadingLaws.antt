@@ -1,0 +1,268 @@
+-- Loading gives one answer, and which one is told by what was read of the two files.
+use Rattle.std.proofs.Common.{◌≡◌, ◌≤◌, ℕ, List, length, take, Option, Some, None, refl, sym, ap, subst, ◌∙◌, arith, length-take, map, count_by}
+use Rattle.std.specs.Prelude.{Result, Ok, Err, IfSome, IsSomeAnd, MatchOption}
+use Rattle.std.proofs.lemmas.List.{take_all}
+use Rattle.tars_base.specs.Contents.{Contents, IsFrontOfFile}
+use Rattle.session.specs.declared.load_fault.LoadFault.{LoadFault}
+use Rattle.session.specs.declared.load_fault.LoadFault.TheVariants.{Refused, Read, Memory}
+use Rattle.session.specs.declared.loaded.Loaded.{Loaded}
+use Rattle.session.specs.declared.idl_parse.InterfaceText.{InterfaceText as InterfaceStruct}
+use Rattle.session.specs.declared.script.ScriptText.{ScriptText as ScriptStruct}
+use Rattle.session.specs.InterfaceText.{MAX_FILE, InterfaceText, IsInterfaceText}
+use Rattle.session.specs.LoadAnswers.{answer_of, IsExactly, IsExact, IsGiven, IsOnlyGiven, IsRefusedBy}
+use Rattle.session.specs.Loading.{LoadAnswer, loaded, refused, unread, Loads, Agree, loaded_of, refusal_line, BAD_SCRIPT, BAD_INTERFACE, BAD_VALUE}
+use Rattle.session.specs.Loading.{no_script, bad_script, no_interface, bad_interface, bad_value, session}
+use Rattle.session.specs.Reading.{event_of, names_of, Reads}
+use Rattle.session.specs.ScriptSteps.{is_call_value}
+use Rattle.session.specs.ScriptText.{ScriptText, IsScriptText, MAX_CALLS}
+use Rattle.session.proofs.ScriptLaws.{calls_are}
+
+-- ---- the front of a file
+
+abbrev pub MOST : ℕ
+MOST = 1048577
+
+-- the file has these bytes, as far as they were read
+abbrev pub IsRead : Contents → List ℕ → List ℕ → Type 0
+IsRead c name bytes = (file : List ℕ) × (c name ≡ Some file) × (bytes ≡ take MOST file)
+
+read_of : (c : Contents) (name bytes : List ℕ) → IsFrontOfFile (Some c) name MOST bytes → IsRead c name bytes
+read_of c name bytes front = by_file (c name) refl front
+  where
+    by_file : (o : Option (List ℕ)) → c name ≡ o → MatchOption o ⊥ (λ file. bytes ≡ take MOST file) → IsRead c name bytes
+    by_file None e front = absurd front
+    by_file (Some file) e front = (file, e, front)
+
+-- what was read of an accepted file is all of it
+whole_file : (bytes file : List ℕ) → bytes ≡ take MOST file → length bytes ≤ MAX_FILE → bytes ≡ file
+whole_file bytes file front within =
+    let short : length file ≤ MOST = omega (arith, length-take MOST file, ap length front) in
+    front ∙ take_all MOST file short
+
+whole_front : (bytes file : List ℕ) → bytes ≡ take MOST file → length file ≤ MAX_FILE → bytes ≡ file
+whole_front bytes file front within =
+    let short : length file ≤ MOST = omega arith in
+    front ∙ take_all MOST file short
+
+-- ---- what the two files are
+
+-- the file is a script, which the struct holds
+pub record HoldsScript (c : Contents) (name : List ℕ) (r : ScriptStruct) : Type 0 where
+  pub file : List ℕ
+  pub is : c name ≡ Some file
+  pub text : ScriptText
+  pub form : IsScriptText text file
+  pub reads : Reads r text
+  pub only : (s : ScriptText) → IsScriptText s file → Reads r s
+
+pub record HoldsNoScript (c : Contents) (name : List ℕ) : Type 0 where
+  pub file : List ℕ
+  pub is : c name ≡ Some file
+  pub none : (s : ScriptText) → IsScriptText s file → ⊥
+
+-- the file is an interface file with these names
+pub record HoldsInterface (c : Contents) (name : List ℕ) (i : InterfaceText) : Type 0 where
+  pub file : List ℕ
+  pub is : c name ≡ Some file
+  pub form : IsInterfaceText i file
+  pub only : (j : InterfaceText) → IsInterfaceText j file → i ≡ j
+
+pub record HoldsNoInterface (c : Contents) (name : List ℕ) : Type 0 where
+  pub file : List ℕ
+  pub is : c name ≡ Some file
+  pub none : (i : InterfaceText) → IsInterfaceText i file → ⊥
+
+script_held : (c : Contents) (name bytes : List ℕ) (r : ScriptStruct) → IsFrontOfFile (Some c) name MOST bytes
+    → (s : ScriptText) × IsScriptText s bytes × Reads r s → ((s : ScriptText) → IsScriptText s bytes → Reads r s) → HoldsScript c name r
+script_held c name bytes r front found only =
+    let f = read_of c name bytes front in
+    let same : bytes ≡ f.0 = whole_file bytes f.0 f.2 found.1.within in
+    record {
+      file = f.0;
+      is = f.1;
+      text = found.0;
+      form = subst (λ (b : List ℕ). IsScriptText found.0 b) same found.1;
+      reads = found.2;
+      only = λ s form. only s (subst (λ (b : List ℕ). IsScriptText s b) (sym same) form);
+    }
+
+no_script_held : (c : Contents) (name bytes : List ℕ) → IsFrontOfFile (Some c) name MOST bytes → ((s : ScriptText) → IsScriptText s bytes → ⊥) → HoldsNoScript c name
+no_script_held c name bytes front none =
+    let f = read_of c name bytes front in
+    record {
+      file = f.0;
+      is = f.1;
+      none = λ s form. none s (subst (λ (b : List ℕ). IsScriptText s b) (sym (whole_front bytes f.0 f.2 form.within)) form);
+    }
+
+interface_held : (c : Contents) (name bytes : List ℕ) (i : InterfaceText) → IsFrontOfFile (Some c) name MOST bytes
+    → IsInterfaceText i bytes → ((j : InterfaceText) → IsInterfaceText j bytes → i ≡ j) → HoldsInterface c name i
+interface_held c name bytes i front form only =
+    let f = read_of c name bytes front in
+    let same : bytes ≡ f.0 = whole_file bytes f.0 f.2 form.within in
+    record {
+      file = f.0;
+      is = f.1;
+      form = subst (λ (b : List ℕ). IsInterfaceText i b) same form;
+      only = λ j form. only j (subst (λ (b : List ℕ). IsInterfaceText j b) (sym same) form);
+    }
+
+no_interface_held : (c : Contents) (name bytes : List ℕ) → IsFrontOfFile (Some c) name MOST bytes → ((i : InterfaceText) → IsInterfaceText i bytes → ⊥) → HoldsNoInterface c name
+no_interface_held c name bytes front none =
+    let f = read_of c name bytes front in
+    record {
+      file = f.0;
+      is = f.1;
+      none = λ i form. none i (subst (λ (b : List ℕ). IsInterfaceText i b) (sym (whole_front bytes f.0 f.2 form.within)) form);
+    }
+
+-- ---- the answer that each of these has
+
+same_file : (c : Contents) (name other file text : List ℕ) → c name ≡ Some file → c other ≡ Some text → name ≡ other → text ≡ file
+same_file c name other file text is there same = cc
+
+gone : (c : Contents) (name other file : List ℕ) → c name ≡ Some file → c other ≡ None → name ≡ other → ⊥
+gone c name other file is none same = cc
+
+-- any script text of the file is held by the struct
+reads_of : (c : Contents) (name : List ℕ) (r : ScriptStruct) (s : ScriptText) (text : List ℕ) → HoldsScript c name r → c name ≡ Some text → IsScriptText s text → Reads r s
+reads_of c name r s text h is form = h.only s (subst (λ (b : List ℕ). IsScriptText s b) (same_file c name name h.file text h.is is refl) form)
+
+names_are : (c : Contents) (name other : List ℕ) (i j : InterfaceText) (file : List ℕ) → HoldsInterface c name i → c other ≡ Some file → name ≡ other → IsInterfaceText j file → i ≡ j
+names_are c name other i j file h is same form = h.only j (subst (λ (b : List ℕ). IsInterfaceText j b) (same_file c name other h.file file h.is is same) form)
+
+exactly_bad_script : (c : Contents) (name : List ℕ) → HoldsNoScript c name → IsExactly c name (refused (refusal_line name BAD_SCRIPT))
+exactly_bad_script c name h = record { gives = bad_script h.file h.is h.none; only = only_this }
+  where
+    not_here : (text : List ℕ) (s : ScriptText) → c name ≡ Some text → IsScriptText s text → ⊥
+    not_here text s is form = h.none s (subst (λ (b : List ℕ). IsScriptText s b) (same_file c name name h.file text h.is is refl) form)
+
+    only_this : (other : LoadAnswer) → Loads c name other → other ≡ refused (refusal_line name BAD_SCRIPT)
+    only_this other (no_script none) = absurd (gone c name name h.file h.is none refl)
+    only_this other (bad_script text is none) = refl
+    only_this other (no_interface text s is form none) = absurd (not_here text s is form)
+    only_this other (bad_interface text file s is form there none) = absurd (not_here text s is form)
+    only_this other (bad_value text file s i is form there names apart) = absurd (not_here text s is form)
+    only_this other (session text file s i is form there names agree) = absurd (not_here text s is form)
+
+exactly_bad_interface : (c : Contents) (name : List ℕ) (r : ScriptStruct) → HoldsScript c name r → HoldsNoInterface c r.client.now → IsExactly c name (refused (refusal_line r.client.now BAD_INTERFACE))
+exactly_bad_interface c name r h n = record { gives = gives; only = only_this }
+  where
+    gives : Loads c name (refused (refusal_line r.client.now BAD_INTERFACE))
+    gives =
+        let row : Loads c name (refused (refusal_line h.text.client BAD_INTERFACE)) = bad_interface h.file n.file h.text h.is h.form (ap c (sym h.reads.client) ∙ n.is) n.none in
+        subst (λ (client : List ℕ). Loads c name (refused (refusal_line client BAD_INTERFACE))) (sym h.reads.client) row
+
+    not_names : (text file : List ℕ) (s : ScriptText) (i : InterfaceText) → c name ≡ Some text → IsScriptText s text → c s.client ≡ Some file → IsInterfaceText i file → ⊥
+    not_names text file s i is form there names =
+        n.none i (subst (λ (b : List ℕ). IsInterfaceText i b) (same_file c r.client.now s.client n.file file n.is there (reads_of c name r s text h is form).client) names)
+
+    only_this : (other : LoadAnswer) → Loads c name other → other ≡ refused (refusal_line r.client.now BAD_INTERFACE)
+    only_this other (no_script none) = absurd (gone c name name h.file h.is none refl)
+    only_this other (bad_script text is none) = absurd (none h.text (subst (λ (b : List ℕ). IsScriptText h.text b) (same_file c name name text h.file is h.is refl) h.form))
+    only_this other (no_interface text s is form none) = absurd (gone c r.client.now s.client n.file n.is none (reads_of c name r s text h is form).client)
+    only_this other (bad_interface text file s is form there none) = ap (λ (client : List ℕ). refused (refusal_line client BAD_INTERFACE)) (sym (reads_of c name r s text h is form).client)
+    only_this other (bad_value text file s i is form there names apart) = absurd (not_names text file s i is form there names)
+    only_this other (session text file s i is form there names agree) = absurd (not_names text file s i is form there names)
+
+-- where both files are accepted, any row of loading is one of these
+pub data OfBoth (r : ScriptStruct) (i : InterfaceText) (name : List ℕ) : LoadAnswer → Type 0 where
+  apart : (s : ScriptText) → Reads r s → ¬ Agree s i → OfBoth r i name (refused (refusal_line name BAD_VALUE))
+  agreed : (s : ScriptText) → Reads r s → Agree s i → OfBoth r i name (loaded (loaded_of s i))
+
+of_both : (c : Contents) (name : List ℕ) (r : ScriptStruct) (i : InterfaceText) (answer : LoadAnswer) → HoldsScript c name r → HoldsInterface c r.client.now i → Loads c name answer → OfBoth r i name answer
+of_both c name r i answer h n (no_script none) = absurd (gone c name name h.file h.is none refl)
+of_both c name r i answer h n (bad_script text is none) = absurd (none h.text (subst (λ (b : List ℕ). IsScriptText h.text b) (same_file c name name text h.file is h.is refl) h.form))
+of_both c name r i answer h n (no_interface text s is form none) = absurd (gone c r.client.now s.client n.file n.is none (reads_of c name r s text h is form).client)
+of_both c name r i answer h n (bad_interface text file s is form there none) =
+    absurd (none i (subst (λ (b : List ℕ). IsInterfaceText i b) (same_file c s.client r.client.now file n.file there n.is (sym (reads_of c name r s text h is form).client)) n.form))
+of_both c name r i answer h n (bad_value text file s j is form there names unlike) =
+    let reads = reads_of c name r s text h is form in
+    let same : i ≡ j = names_are c r.client.now s.client i j file n there reads.client names in
+    apart s reads (subst (λ (j : InterfaceText). ¬ Agree s j) (sym same) unlike)
+of_both c name r i answer h n (session text file s j is form there names agree) =
+    let reads = reads_of c name r s text h is form in
+    let same : i ≡ j = names_are c r.client.now s.client i j file n there reads.client names in
+    subst (λ (j : InterfaceText). OfBoth r i name (loaded (loaded_of s j))) same (agreed s reads (subst (λ (j : InterfaceText). Agree s j) (sym same) agree))
+
+exactly_bad_value : (c : Contents) (name : List ℕ) (r : ScriptStruct) (i : InterfaceText) → HoldsScript c name r → HoldsInterface c r.client.now i → ((s : ScriptText) → Reads r s → ¬ Agree s i) → IsExactly c name (refused (refusal_line name BAD_VALUE))
+exactly_bad_value c name r i h n unlike =
+    record {
+      gives = bad_value h.file n.file h.text i h.is h.form (ap c (sym h.reads.client) ∙ n.is) n.form (unlike h.text h.reads);
+      only = λ other given. judged other (of_both c name r i other h n given);
+    }
+  where
+    judged : (other : LoadAnswer) → OfBoth r i name other → other ≡ refused (refusal_line name BAD_VALUE)
+    judged other (apart s reads unlike) = refl
+    judged other (agreed s reads agree) = absurd (unlike s reads agree)
+
+exactly_loaded : (c : Contents) (name : List ℕ) (r : ScriptStruct) (i : InterfaceText) (l : Loaded) → HoldsScript c name r → HoldsInterface c r.client.now i → ((s : ScriptText) → Reads r s → Agree s i × (l ≡ loaded_of s i)) → IsExactly c name (loaded l)
+exactly_loaded c name r i l h n agree = record { gives = gives; only = λ other given. judged other (of_both c name r i other h n given) }
+  where
+    gives : Loads c name (loaded l)
+    gives =
+        let a = agree h.text h.reads in
+        let row : Loads c name (loaded (loaded_of h.text i)) = session h.file n.file h.text i h.is h.form (ap c (sym h.reads.client) ∙ n.is) n.form a.0 in
+        subst (λ (l : Loaded). Loads c name (loaded l)) (sym a.1) row
+
+    judged : (other : LoadAnswer) → OfBoth r i name other → other ≡ loaded l
+    judged other (apart s reads unlike) = absurd (unlike (agree s reads).0)
+    judged other (agreed s reads agrees) = ap loaded (sym (agree s reads).1)
+
+-- ---- where contents are told
+
+-- the struct of a script that was read, and the names of an interface file
+pub record HasRead (bytes : List ℕ) (r : ScriptStruct) : Type 0 where
+  pub found : (s : ScriptText) × IsScriptText s bytes × Reads r s
+  pub only : (s : ScriptText) → IsScriptText s bytes → Reads r s
+
+pub record HasNames (bytes : List ℕ) (i : InterfaceText) : Type 0 where
+  pub found : IsInterfaceText i bytes
+  pub only : (j : InterfaceText) → IsInterfaceText j bytes → i ≡ j
+
+-- as many calls as a script may have
+pub calls_read : (bytes : List ℕ) (r : ScriptStruct) → (s : ScriptText) × IsScriptText s bytes × Reads r s → count_by is_call_value (map event_of r.events.items) ≤ MAX_CALLS
+calls_read bytes r found = rw (found.2.events, ← calls_are found.0.events) found.1.calls
+
+pub bad_script_told : (told : Option Contents) (name bytes : List ℕ) → IsFrontOfFile told name MOST bytes → ((s : ScriptText) → IsScriptText s bytes → ⊥) → IsExact told name (refused (refusal_line name BAD_SCRIPT))
+bad_script_told None name bytes front none = tt
+bad_script_told (Some c) name bytes front none = exactly_bad_script c name (no_script_held c name bytes front none)
+
+pub bad_interface_told : (told : Option Contents) (name text file : List ℕ) (r : ScriptStruct) → IsFrontOfFile told name MOST text → HasRead text r
+    → IsFrontOfFile told r.client.now MOST file → ((i : InterfaceText) → IsInterfaceText i file → ⊥) → IsExact told name (refused (refusal_line r.client.now BAD_INTERFACE))
+bad_interface_told None name text file r front read behind none = tt
+bad_interface_told (Some c) name text file r front read behind none =
+    exactly_bad_interface c name r (script_held c name text r front read.found read.only) (no_interface_held c r.client.now file behind none)
+
+pub bad_value_told : (told : Option Contents) (name text file : List ℕ) (r : ScriptStruct) (i : InterfaceText) → IsFrontOfFile told name MOST text → HasRead text r
+    → IsFrontOfFile told r.client.now MOST file → HasNames file i → ((s : ScriptText) → Reads r s → ¬ Agree s i) → IsExact told name (refused (refusal_line name BAD_VALUE))
+bad_value_told None name text file r i front read behind names unlike = tt
+bad_value_told (Some c) name text file r i front read behind names unlike =
+    exactly_bad_value c name r i (script_held c name text r front read.found read.only) (interface_held c r.client.now file i behind names.found names.only) unlike
+
+pub loaded_told : (told : Option Contents) (name text file : List ℕ) (r : ScriptStruct) (i : InterfaceText) (l : Loaded) → IsFrontOfFile told name MOST text → HasRead text r
+    → IsFrontOfFile told r.client.now MOST file → HasNames file i → ((s : ScriptText) → Reads r s → Agree s i × (l ≡ loaded_of s i)) → IsExact told name (loaded l)
+loaded_told None name text file r i l front read behind names agree = tt
+loaded_told (Some c) name text file r i l front read behind names agree =
+    exactly_loaded c name r i l (script_held c name text r front read.found read.only) (interface_held c r.client.now file i behind names.found names.only) agree
+
+-- ---- what is returned then
+
+pub refused_exact : (told : Option Contents) (name line : List ℕ) (fault : LoadFault) → IsExact told name (refused line) → IsRefusedBy line fault → IfSome (answer_of (Err fault)) (IsExact told name)
+refused_exact told name line (Refused own) exact by = subst (λ (l : List ℕ). IsExact told name (refused l)) (sym by) exact
+refused_exact told name line Memory exact by = tt
+refused_exact told name line Read exact by = tt
+
+pub exact_given : (told : Option Contents) (name : List ℕ) (result : Result Loaded LoadFault) → IfSome (answer_of result) (IsExact told name) → IsGiven told name result
+exact_given None name result exact = tt
+exact_given (Some c) name (Ok l) exact = exact.gives
+exact_given (Some c) name (Err (Refused line)) exact = exact.gives
+exact_given (Some c) name (Err Read) exact = tt
+exact_given (Some c) name (Err Memory) exact = tt
+
+pub exact_only : (told : Option Contents) (name : List ℕ) (result : Result Loaded LoadFault) → IfSome (answer_of result) (IsExact told name) → IsOnlyGiven told name result
+exact_only None name result exact = tt
+exact_only (Some c) name (Ok l) exact = exact.only
+exact_only (Some c) name (Err (Refused line)) exact = exact.only
+exact_only (Some c) name (Err Read) exact = tt
+exact_only (Some c) name (Err Memory) exact = tt

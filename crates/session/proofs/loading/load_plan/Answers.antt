@@ -1,0 +1,55 @@
+use Rattle.std.proofs.Common.{◌≡◌, ◌≤◌, List, ℕ, rules, subst, sym, ap, ◌∙◌, map, count_by, arith}
+use Rattle.tars_base.specs.Contents.{IsFrontOfFile}
+use Rattle.session.specs.declared.script.ScriptText.{ScriptText as ScriptStruct}
+use Rattle.session.specs.InterfaceText.{InterfaceText, IsInterfaceText}
+use Rattle.session.specs.LoadAnswers.{IsExact}
+use Rattle.session.specs.Loading.{Agree, loaded_of}
+use Rattle.session.specs.Reading.{names_of, Reads}
+use Rattle.session.specs.ScriptText.{ScriptText, IsScriptText}
+use Rattle.session.proofs.LoadingLaws.{MOST, HasRead, HasNames, calls_read, bad_script_told, bad_interface_told, bad_value_told, loaded_told, refused_exact}
+use Rattle.session.proofs.loading.load_plan.Goals as goal
+
+pub session_of-requires : goal.session_of-requires
+session_of-requires g c =
+    let found = rw c.in-Some.is at c.in_ok-script.ensures.found in
+    calls_read c.deref.result.now c.in-Some.script found
+
+pub returns-in_default-clause-exact : goal.returns-in_default-clause-exact
+returns-in_default-clause-exact g c =
+    let told = g.F.Files.contents c.args.files.now in
+    let front : IsFrontOfFile told c.args.name.now MOST c.deref.result.now = rw c.deref.ensures.value c.in_ok-text.ensures.bytes in
+    let none : (s : ScriptText) → ¬ IsScriptText s c.deref.result.now = λ s form. let some = c.in_ok-script.ensures.only s form in search rules in
+    refused_exact told _ _ c.refused.result (bad_script_told told c.args.name.now c.deref.result.now front none) c.refused.ensures
+
+pub returns-in_default-read_interface-clause-exact : goal.returns-in_default-read_interface-clause-exact
+returns-in_default-read_interface-clause-exact g c =
+    let told = g.F.Files.contents c.args.files.now in
+    let front : IsFrontOfFile told c.args.name.now MOST c.deref.result.now = rw c.deref.ensures.value c.in_ok-text.ensures.bytes in
+    let read : HasRead c.deref.result.now c.in-Some.script =
+    record { found = rw c.in-Some.is at c.in_ok-script.ensures.found; only = rw c.in-Some.is at c.in_ok-script.ensures.only } in
+    let behind : IsFrontOfFile told c.in-Some.script.client.now MOST c.deref-2.result.now =
+    rw (c.deref-2.ensures.value, ← c.read.ensures.same) c.in_ok-file.ensures.bytes in
+    let none : (i : InterfaceText) → ¬ IsInterfaceText i c.deref-2.result.now = λ i form. let some = c.in_default-read_interface.ensures.only i form in search rules in
+    refused_exact told _ _ c.refused-in_default-read_interface.result (bad_interface_told told _ _ _ _ front read behind none) c.refused-in_default-read_interface.ensures
+
+pub returns-in-Some-2-clause-exact : goal.returns-in-Some-2-clause-exact
+returns-in-Some-2-clause-exact g c =
+    let told = g.F.Files.contents c.args.files.now in
+    let front : IsFrontOfFile told c.args.name.now MOST c.deref.result.now = rw c.deref.ensures.value c.in_ok-text.ensures.bytes in
+    let read : HasRead c.deref.result.now c.in-Some.script =
+    record { found = rw c.in-Some.is at c.in_ok-script.ensures.found; only = rw c.in-Some.is at c.in_ok-script.ensures.only } in
+    let behind : IsFrontOfFile told c.in-Some.script.client.now MOST c.deref-2.result.now =
+    rw (c.deref-2.ensures.value, ← c.read.ensures.same) c.in_ok-file.ensures.bytes in
+    let names : HasNames c.deref-2.result.now (names_of c.in-Some-read_interface.interface) = record { found = c.in-Some-read_interface.ensures.found; only = c.in-Some-read_interface.ensures.only } in
+    loaded_told told _ _ _ _ _ _ front read behind names (λ s reads. rw c.in-Some-2.is at c.in_ok-loaded.ensures s reads)
+
+pub returns-clause-exact : goal.returns-clause-exact
+returns-clause-exact g c =
+    let told = g.F.Files.contents c.args.files.now in
+    let front : IsFrontOfFile told c.args.name.now MOST c.deref.result.now = rw c.deref.ensures.value c.in_ok-text.ensures.bytes in
+    let read : HasRead c.deref.result.now c.in-Some.script =
+    record { found = rw c.in-Some.is at c.in_ok-script.ensures.found; only = rw c.in-Some.is at c.in_ok-script.ensures.only } in
+    let behind : IsFrontOfFile told c.in-Some.script.client.now MOST c.deref-2.result.now =
+    rw (c.deref-2.ensures.value, ← c.read.ensures.same) c.in_ok-file.ensures.bytes in
+    let names : HasNames c.deref-2.result.now (names_of c.in-Some-read_interface.interface) = record { found = c.in-Some-read_interface.ensures.found; only = c.in-Some-read_interface.ensures.only } in
+    refused_exact told _ _ c.refused-in-None.result (bad_value_told told _ _ _ _ _ front read behind names (λ s reads. rw c.in-None.is at c.in_ok-loaded.ensures s reads)) c.refused-in-None.ensures

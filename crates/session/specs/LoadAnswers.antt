@@ -1,0 +1,54 @@
+-- What a call of loading answers, beside what loading gives (`specs/Loading.antt`).
+use Rattle.std.specs.Prelude.{◌≡◌, ◌≤◌, ℕ, List, Option, Some, None, Result, Ok, Err, IfSome, IsErrOf}
+use Rattle.tars_base.specs.Causes.{Rose}
+use Rattle.tars_base.specs.Contents.{Contents}
+use Rattle.tars_base.specs.declared.fault.ReadFault.{ReadFault}
+use Rattle.tars_base.specs.declared.fault.ReadFault.TheVariants as reads
+use Rattle.session.specs.declared.load_fault.LoadFault.{LoadFault}
+use Rattle.session.specs.declared.load_fault.LoadFault.TheVariants.{Refused, Read, Memory}
+use Rattle.session.specs.declared.loaded.Loaded.{Loaded}
+use Rattle.session.specs.Loading.{LoadAnswer, loaded, refused, Loads}
+
+-- what a fault of the files is to one who loads
+abbrev pub fault_of : ReadFault → LoadFault
+fault_of reads.Failed = Read
+fault_of reads.Memory = Memory
+
+-- what was loaded or refused; a failed read and want of memory are no answer
+abbrev pub answer_of : Result Loaded LoadFault → Option LoadAnswer
+answer_of (Ok l) = Some (loaded l)
+answer_of (Err (Refused line)) = Some (refused line)
+answer_of (Err Read) = None
+answer_of (Err Memory) = None
+
+-- a fault refuses a text by this line, or tells that there was no memory for it
+abbrev pub IsRefusedBy : List ℕ → LoadFault → Type 0
+IsRefusedBy line (Refused own) = own ≡ line
+IsRefusedBy line Read = ⊥
+IsRefusedBy line Memory = Unit {0}
+
+-- loading gives this answer and no other
+pub record IsExactly (contents : Contents) (script : List ℕ) (answer : LoadAnswer) : Type 0 where
+  pub gives : Loads contents script answer
+  pub only : (other : LoadAnswer) → Loads contents script other → other ≡ answer
+
+-- the same where contents are told
+abbrev pub IsExact : Option Contents → List ℕ → LoadAnswer → Type 0
+IsExact None script answer = Unit {0}
+IsExact (Some contents) script answer = IsExactly contents script answer
+
+-- where contents are told, loading gives what was answered
+abbrev pub IsGiven : Option Contents → List ℕ → Result Loaded LoadFault → Type 0
+IsGiven None script result = Unit {0}
+IsGiven (Some contents) script result = IfSome (answer_of result) (λ answer. Loads contents script answer)
+
+-- where contents are told, loading gives nothing but what was answered
+abbrev pub IsOnlyGiven : Option Contents → List ℕ → Result Loaded LoadFault → Type 0
+IsOnlyGiven None script result = Unit {0}
+IsOnlyGiven (Some contents) script result =
+    IfSome (answer_of result) (λ answer. (other : LoadAnswer) → Loads contents script other → other ≡ answer)
+
+-- a failed read is answered only where the count of faults rose; want of memory has no cause to show
+pub record LoadHasCause {T : Type 0} (before now : ℕ) (result : Result T LoadFault) : Type 0 where
+  pub later : before ≤ now
+  pub failed : IsErrOf result Read → Rose before now

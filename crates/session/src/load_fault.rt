@@ -1,0 +1,40 @@
+ghost use Rattle.std.specs.Prelude.{◌≡◌};
+ghost use Rattle.session.specs.LoadAnswers.{fault_of};
+ghost use Rattle.session.specs.declared.load_fault.LoadFault.TheVariants.{Memory as no_memory};
+
+use std::alloc::AllocError;
+use tars_base::ReadFault;
+use tars_model::Bytes8;
+use thiserror::Error;
+
+/// Why a script was not loaded.
+#[derive(Debug, Drop, Error)]
+pub enum LoadFault {
+    /// A text that was read whole is refused, by this line.
+    #[error("refused")]
+    Refused { line: Bytes8 },
+    /// A file could not be read.
+    #[error("read fault")]
+    Read,
+    #[error("no memory")]
+    Memory,
+}
+
+impl From<AllocError> for LoadFault {
+    ghost from_gives = { λ _ e. e ≡ no_memory };
+
+    fn from(_: AllocError) -> Self {
+        LoadFault::Memory
+    }
+}
+
+impl From<ReadFault> for LoadFault {
+    ghost from_gives = { λ fault e. e ≡ fault_of fault };
+
+    fn from(fault: ReadFault) -> Self {
+        match fault {
+            ReadFault::Failed => LoadFault::Read,
+            ReadFault::Memory => LoadFault::Memory,
+        }
+    }
+}

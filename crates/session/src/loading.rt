@@ -1,0 +1,90 @@
+//! Loading: a script and its interface file are read and judged (docs/SCRIPTS.md, "Loading").
+
+ghost use Rattle.std.specs.Prelude.{◌≡◌, IfOk, IfSome};
+ghost use Rattle.session.specs.LoadAnswers.{answer_of, IsExact, IsGiven, IsOnlyGiven, IsRefusedBy, LoadHasCause};
+ghost use Rattle.session.specs.Loading.{IsLoaded, refusal_line};
+
+use crate::scan::MAX_FILE;
+use crate::{LoadFault, Loaded, Mode, read_interface, read_script};
+use session::session_of;
+use std::alloc::{AllocError, Global};
+use tars_base::Files;
+use tars_model::Bytes8;
+
+mod events;
+mod session;
+
+/// What is read of a file: one byte more than an accepted one can have.
+const MOST: usize = MAX_FILE + 1;
+
+/// A script of no accepted form.
+const BAD_SCRIPT: &[u8] = b" script 1 0";
+
+/// An interface file of no accepted form.
+const BAD_INTERFACE: &[u8] = b" parse 5 0";
+
+/// A name that is not the interface file's, or an argument that is no int.
+const BAD_VALUE: &[u8] = b" script 7 0";
+
+fn refusal_line(alloc: Global, name: &str, what: &[u8]) -> Result<Bytes8, AllocError>
+    ensures { IfOk result (λ line. line ≡ refusal_line name.now what.now) }
+{
+    let mut line = Vec::from_slice(alloc, b"refused ")?;
+    line.extend_from_slice(name.as_bytes())?;
+    line.extend_from_slice(what)?;
+    line.push(b'\n')?;
+    Ok(Bytes8::from_vec(line))
+}
+
+/// Refuses the file of this name, if there is memory for the line.
+fn refused(alloc: Global, name: &str, what: &[u8]) -> LoadFault
+    ensures { IsRefusedBy (refusal_line name.now what.now) result }
+{
+    match refusal_line(alloc, name, what) {
+        Ok(line) => LoadFault::Refused { line },
+        Err(AllocError) => LoadFault::Memory,
+    }
+}
+
+/// The session of a script that is run at once.
+fn load_plan<F: Files>(alloc: Global, files: &mut F, name: &str) -> Result<Loaded, LoadFault>
+    ensures sound { IfOk result (λ l. IsLoaded l) }
+    ensures exact { IfSome (answer_of result) (λ a. IsExact (F.contents files.old) name.now a) }
+    ensures same { F.contents files.new ≡ F.contents files.old }
+    ensures cause { LoadHasCause (F.faults files.old) (F.faults files.new) result }
+{
+    let text = files.read(alloc, name, MOST)?;
+    let Some(script) = read_script(alloc, &text)? else {
+        return Err(refused(alloc, name, BAD_SCRIPT));
+    };
+    let file = files.read(alloc, script.client, MOST)?;
+    let Some(interface) = read_interface(&file) else {
+        return Err(refused(alloc, script.client, BAD_INTERFACE));
+    };
+    match session_of(alloc, &interface, &script)? {
+        Some(loaded) => Ok(loaded),
+        None => Err(refused(alloc, name, BAD_VALUE)),
+    }
+}
+
+/// The session of the script under this name. A file that is longer than an accepted one is read
+/// only so far that this shows.
+#[tactic(auto, using(crate::proofs::LoadingLaws::exact_given, crate::proofs::LoadingLaws::exact_only))]
+pub fn load<F: Files>(
+    alloc: Global,
+    files: &mut F,
+    name: &str,
+    mode: Mode,
+) -> Result<Loaded, LoadFault>
+    // Whether contents are told or not.
+    ensures sound { IfOk result (λ l. IsLoaded l) }
+    // Where they are told, loading gives what is answered, and nothing else.
+    ensures told { IsGiven (F.contents files.old) name.now result }
+    ensures only { IsOnlyGiven (F.contents files.old) name.now result }
+    ensures same { F.contents files.new ≡ F.contents files.old }
+    ensures cause { LoadHasCause (F.faults files.old) (F.faults files.new) result }
+{
+    match mode {
+        Mode::Plan => load_plan(alloc, files, name),
+    }
+}
