@@ -6,6 +6,7 @@ ghost use Rattle.tars_codec.specs.Reading.{Gives, bytes_at, unsigned_at, signed_
 
 use crate::read_error::ReadError;
 use crate::wire_type::WireType;
+use byteorder::{BigEndian, ByteOrder};
 
 /// So many bytes.
 pub fn read_bytes(count: usize, bytes: &[u8]) -> Result<(&[u8], &[u8]), ReadError>
@@ -26,36 +27,36 @@ pub fn read_u8(bytes: &[u8]) -> Result<(u8, &[u8]), ReadError>
 pub fn read_u32(bytes: &[u8]) -> Result<(u32, &[u8]), ReadError>
     ensures { Gives (λ x. (x.0, x.1.now)) result (unsigned_at w32 bytes.now) }
 {
-    let (number, rest) = bytes.split_first_chunk::<4>().ok_or(ReadError::Malformed)?;
-    Ok((u32::from_be_bytes(*number), rest))
+    let (number, rest) = read_bytes(4, bytes)?;
+    Ok((BigEndian::read_u32(number), rest))
 }
 
 fn read_i8(bytes: &[u8]) -> Result<(i64, &[u8]), ReadError>
     ensures { Gives (λ x. (x.0, x.1.now)) result (signed_at w8 bytes.now) }
 {
-    let (number, rest) = bytes.split_first_chunk::<1>().ok_or(ReadError::Malformed)?;
-    Ok((i64::from(i8::from_be_bytes(*number)), rest))
+    let (number, rest) = read_u8(bytes)?;
+    Ok((i64::from(number.cast_signed()), rest))
 }
 
 fn read_i16(bytes: &[u8]) -> Result<(i64, &[u8]), ReadError>
     ensures { Gives (λ x. (x.0, x.1.now)) result (signed_at w16 bytes.now) }
 {
-    let (number, rest) = bytes.split_first_chunk::<2>().ok_or(ReadError::Malformed)?;
-    Ok((i64::from(i16::from_be_bytes(*number)), rest))
+    let (number, rest) = read_bytes(2, bytes)?;
+    Ok((i64::from(BigEndian::read_i16(number)), rest))
 }
 
 fn read_i32(bytes: &[u8]) -> Result<(i64, &[u8]), ReadError>
     ensures { Gives (λ x. (x.0, x.1.now)) result (signed_at w32 bytes.now) }
 {
-    let (number, rest) = bytes.split_first_chunk::<4>().ok_or(ReadError::Malformed)?;
-    Ok((i64::from(i32::from_be_bytes(*number)), rest))
+    let (number, rest) = read_bytes(4, bytes)?;
+    Ok((i64::from(BigEndian::read_i32(number)), rest))
 }
 
 fn read_i64(bytes: &[u8]) -> Result<(i64, &[u8]), ReadError>
     ensures { Gives (λ x. (x.0, x.1.now)) result (signed_at w64 bytes.now) }
 {
-    let (number, rest) = bytes.split_first_chunk::<8>().ok_or(ReadError::Malformed)?;
-    Ok((i64::from_be_bytes(*number), rest))
+    let (number, rest) = read_bytes(8, bytes)?;
+    Ok((BigEndian::read_i64(number), rest))
 }
 
 /// A whole number of any kind.
