@@ -20,3 +20,7 @@ pub mod EventLaws
 pub mod ScriptLaws
 pub mod SessionLaws
 pub mod LoadingLaws
+pub mod CallLemmas
+pub mod LoadedLemmas
+pub mod ReportLemmas
+pub mod EventLemmas

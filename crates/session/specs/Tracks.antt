@@ -62,6 +62,20 @@ pub record Follows (old new : Plan) (event : Event) : Type 0 where
   pub same : IsSameScript old new
   pub tracks : Tracks new (step old.service (course_of old) event)
 
+-- one more event has happened
+pub record Advances (old new : Plan) : Type 0 where
+  pub service_is : new.service ≡ old.service
+  pub events_are : new.events.now ≡ old.events.now
+  pub done_is : new.done ≡ old.done + 1
+  pub tracks : Tracks new (course_of new)
+
+-- all events have happened
+pub record Ends (old new : Plan) : Type 0 where
+  pub service_is : new.service ≡ old.service
+  pub events_are : new.events.now ≡ old.events.now
+  pub all_done : length new.events.now ≤ new.done
+  pub tracks : Tracks new (course_of new)
+
 -- The caller takes in the answer to a call: the calls and the rows of what it got, before and after.
 pub record Desk : Type 0 where
   pub calls : List Pending

@@ -1,4 +1,11 @@
-use tars_model::{List, Member, Name};
+ghost use Rattle.std.specs.Prelude.{◌≡◌, ◌≤◌, length, IfOk};
+ghost use Rattle.session.specs.Loading.{IsLoaded};
+ghost use Rattle.session.specs.Services.{IsService, func_of as func_is, node_of as node_is, rule_of as rule_is, service_of};
+
+use crate::rpc_packet::{request_members, response_members};
+use crate::{Endpoint, Loaded, Rule};
+use std::alloc::{AllocError, Global};
+use tars_model::{FuncDesc, List, Member, Name, args_of, reply_of};
 
 /// What the calls of a script go to: the object, its function, the servant's rule, and the members
 /// that stand in bodies and packets.
@@ -17,4 +24,55 @@ pub(crate) struct Service {
     pub reply: List<Member>,
     pub request: List<Member>,
     pub response: List<Member>,
+}
+
+/// The one function of the interface.
+fn func_of(loaded: &Loaded) -> &FuncDesc
+    requires { IsLoaded loaded.now }
+    ensures func { result.now ≡ func_is loaded.now 0 }
+    ensures few { length result.now.params ≤ 2 }
+{
+    let interface = loaded.client_interface as usize;
+    &loaded.client.interfaces.as_slice()[interface]
+        .funcs
+        .as_slice()[0]
+}
+
+/// The one node of the object.
+fn node_of(loaded: &Loaded) -> &Endpoint
+    requires { IsLoaded loaded.now }
+    ensures { result.now ≡ node_is loaded.now }
+{
+    &loaded.object.nodes.as_slice()[0]
+}
+
+fn rule_of(loaded: &Loaded) -> Rule
+    requires { IsLoaded loaded.now }
+    ensures { result ≡ rule_is loaded.now }
+{
+    loaded.rules.as_slice()[0].rule
+}
+
+impl Service {
+    /// What the calls of a loaded script go to.
+    #[tactic(auto, unfolding(crate::specs::Services::service_of))]
+    pub fn of(alloc: Global, loaded: &Loaded) -> Result<Service, AllocError>
+        requires { IsLoaded loaded.now }
+        ensures is { IfOk result (λ service. service ≡ service_of loaded.now) }
+        ensures sound { IfOk result (λ service. IsService service) }
+    {
+        let func = func_of(loaded);
+        let Rule::Add(left, right) = rule_of(loaded);
+        Ok(Service {
+            id: loaded.object.id.copy(alloc)?,
+            func: func.name.copy(alloc)?,
+            timeout: node_of(loaded).timeout,
+            left,
+            right,
+            arguments: args_of(alloc, func)?,
+            reply: reply_of(alloc, func)?,
+            request: request_members(alloc)?,
+            response: response_members(alloc)?,
+        })
+    }
 }
