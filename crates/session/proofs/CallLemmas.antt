@@ -1,6 +1,5 @@
 -- What becomes of a call: full, closed or opened.
-use Rattle.std.proofs.Common.{◌≡◌, ◌≤◌, ◌<◌, ◌^◌, ◌+◌, ℕ, zero, suc, Bool, true, false, cond, Option, Some, None, List, [], ◌∷◌, ◌++◌, length, take, drop, map, refl, sym, ap, subst, ◌∙◌, arith, length-append, append_assoc, append-nil}
-use Rattle.std.specs.Prelude.{nat_le}
+use Rattle.std.proofs.Common.{◌≡◌, ◌≤◌, ◌<◌, ◌+◌, ℕ, true, false, None, List, [], ◌∷◌, ◌++◌, length, take, drop, map, refl, sym, ap, subst, ◌∙◌, arith, length-append, append_assoc, append-nil}
 use Rattle.std.specs.List.{AllByRecursion}
 use Rattle.std.proofs.lemmas.Bool.{le-leb, lt-leb}
 use Rattle.std.proofs.lemmas.List.{take-append-le, map-append}
@@ -14,7 +13,7 @@ use Rattle.session.specs.declared.report.Refusal.TheVariants as refusal
 use Rattle.session.specs.Courses.{WIDTH, Course, Opened, opened, opened_among, with_id, began, not_sent, open_under, live_node, step, sent_frame, answer_frame, joined}
 use Rattle.session.specs.Planned.{sent_row, got_rows}
 use Rattle.session.specs.Services.{AreTwoInts}
-use Rattle.session.specs.Tracks.{Tracks, IsOpened, course_of, request_frames, answer_frames}
+use Rattle.session.specs.Tracks.{Tracks, IsOpened, request_frames}
 use Rattle.session.proofs.PlanLemmas.{length-map_frames, drop-append, joined-append}
 
 -- calls that are begun one after another

@@ -1,21 +1,13 @@
 -- What a loaded session is like.
-use Rattle.std.proofs.Common.{◌≡◌, ◌≤◌, ◌<◌, ◌^◌, ◌+◌, ◌⊎◌, inl, inr, ℕ, Bool, true, false, cond, List, [], ◌∷◌, ◌++◌, length, refl, sym, ap, subst, ◌∙◌, arith, length-append, lit≤}
-use Rattle.std.specs.Prelude.{codes, if◌then◌else◌}
+use Rattle.std.proofs.Common.{◌≡◌, ◌≤◌, ◌<◌, ◌+◌, ℕ, Bool, true, false, cond, List, [], ◌∷◌, length, refl, sym, subst, arith, length-append}
 use Rattle.std.specs.List.{AllByRecursion}
 use Rattle.std.specs.Str.{bytes_eq}
-use Rattle.std.specs.Str.Parse.{digits_value}
-use Rattle.tars_model.specs.Members.{required, arguments_of, reply_members_of}
-use Rattle.tars_model.specs.declared.ty.Ty.{Int}
-use Rattle.session.specs.declared.loaded.CallSpec.{CallSpec}
-use Rattle.session.specs.declared.loaded.Event.{Event}
 use Rattle.session.specs.declared.loaded.Loaded.{Loaded}
 use Rattle.session.specs.declared.service.Service.{Service}
 use Rattle.session.specs.InterfaceText.{InterfaceText}
 use Rattle.session.specs.ScriptText.{ScriptText, IsScriptText, ObjectText, EventText, call, serve, work, deliver, close, object_id, object_line, MAX_LINE}
 use Rattle.session.specs.Loading.{IsLoaded, loaded_of, place_of, events_from, IsEventOf}
-use Rattle.session.specs.RpcPackets.{request_members, response_members}
-use Rattle.session.specs.Services.{IsService, AreTwoInts, HaveInts, func_of, node_of, rule_of, service_of}
-use Rattle.session.specs.Sessions.{IsInt}
+use Rattle.session.specs.Services.{IsService, HaveInts, service_of}
 
 -- an object's id is part of a line
 id_short : (o : ObjectText) → length (object_line o) ≤ MAX_LINE → length (object_id o) ≤ 4096

@@ -1,18 +1,17 @@
 -- Loading gives one answer, and which one is told by what was read of the two files.
 use Rattle.std.proofs.Common.{◌≡◌, ◌≤◌, ℕ, List, length, take, Option, Some, None, refl, sym, ap, subst, ◌∙◌, arith, length-take, map, count_by}
-use Rattle.std.specs.Prelude.{Result, Ok, Err, IfSome, IsSomeAnd, MatchOption}
+use Rattle.std.specs.Prelude.{Result, Ok, Err, IfSome, MatchOption}
 use Rattle.std.proofs.lemmas.List.{take_all}
 use Rattle.tars_base.specs.Contents.{Contents, IsFrontOfFile}
 use Rattle.session.specs.declared.load_fault.LoadFault.{LoadFault}
 use Rattle.session.specs.declared.load_fault.LoadFault.TheVariants.{Refused, Read, Memory}
 use Rattle.session.specs.declared.loaded.Loaded.{Loaded}
-use Rattle.session.specs.declared.idl_parse.InterfaceText.{InterfaceText as InterfaceStruct}
 use Rattle.session.specs.declared.script.ScriptText.{ScriptText as ScriptStruct}
 use Rattle.session.specs.InterfaceText.{MAX_FILE, InterfaceText, IsInterfaceText}
 use Rattle.session.specs.LoadAnswers.{answer_of, IsExactly, IsExact, IsGiven, IsOnlyGiven, IsRefusedBy}
-use Rattle.session.specs.Loading.{LoadAnswer, loaded, refused, unread, Loads, Agree, loaded_of, refusal_line, BAD_SCRIPT, BAD_INTERFACE, BAD_VALUE}
+use Rattle.session.specs.Loading.{LoadAnswer, loaded, refused, Loads, Agree, loaded_of, refusal_line, BAD_SCRIPT, BAD_INTERFACE, BAD_VALUE}
 use Rattle.session.specs.Loading.{no_script, bad_script, no_interface, bad_interface, bad_value, session}
-use Rattle.session.specs.Reading.{event_of, names_of, Reads}
+use Rattle.session.specs.Reading.{event_of, Reads}
 use Rattle.session.specs.ScriptSteps.{is_call_value}
 use Rattle.session.specs.ScriptText.{ScriptText, IsScriptText, MAX_CALLS}
 use Rattle.session.proofs.ScriptLaws.{calls_are}

@@ -1,5 +1,5 @@
 -- What the plan keeps is what the report says.
-use Rattle.std.proofs.Common.{◌≡◌, ◌≤◌, ◌<◌, ◌+◌, ℕ, List, [], ◌∷◌, ◌++◌, length, take, drop, map, refl, sym, ap, ◌∙◌, arith}
+use Rattle.std.proofs.Common.{◌≡◌, ◌≤◌, ℕ, List, [], ◌∷◌, ◌++◌, length, take, map, sym, ap, ◌∙◌}
 use Rattle.std.proofs.lemmas.List.{take-map, take-take}
 use Rattle.std.specs.List.{filter_map}
 use Rattle.wire_words.specs.Packets.{packets_of}
@@ -10,7 +10,7 @@ use Rattle.session.specs.declared.plan.Plan.{Plan}
 use Rattle.session.specs.declared.report.Report.{Report}
 use Rattle.session.specs.declared.report.RouteStep.{RouteStep}
 use Rattle.session.specs.declared.report.Row.{Row}
-use Rattle.session.specs.Courses.{NODE, Course, Opened, opened, received, answer_frame, joined, answered_calls}
+use Rattle.session.specs.Courses.{NODE, Course, opened, received, answer_frame, joined, answered_calls}
 use Rattle.session.specs.Planned.{row_of, picked_step, reported_step, got_rows, link_log, report_of}
 use Rattle.session.specs.Tracks.{Tracks, IsOpened, answer_frames}
 use Rattle.session.proofs.FramesArePackets.{answers_are_packets}

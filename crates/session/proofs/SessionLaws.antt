@@ -1,11 +1,10 @@
 -- The session that a script and its interface file say: it is made exactly where the two agree.
-use Rattle.std.proofs.Common.{◌≡◌, ◌<◌, ◌^◌, ℕ, ◌+◌, ℤ, pos, negsuc, Bool, true, false, cond, ltb, ◌&&◌, List, [], ◌∷◌, map, Option, Some, None, refl, sym, ap, ◌∙◌, arith, rules, ◌⊎◌, inl, inr}
+use Rattle.std.proofs.Common.{◌≡◌, ◌<◌, ◌^◌, ℕ, ◌+◌, ℤ, pos, negsuc, Bool, true, false, cond, ◌&&◌, List, [], ◌∷◌, map, Option, Some, None, refl, sym, ◌∙◌, arith, inl, inr}
 use Rattle.std.specs.Prelude.{MatchOption, Result, Ok, Err, IfOk}
 use Rattle.std.specs.List.{AllByRecursion}
 use Rattle.std.specs.Str.{bytes_eq}
 use Rattle.std.specs.Bool.{Decides}
-use Rattle.std.proofs.lemmas.Bool.{and_parts, and_from, cond-true, cond-false, ltb-true, lt-ltb}
-use Rattle.std.proofs.lemmas.Bool.Decides.{Decides-and}
+use Rattle.std.proofs.lemmas.Bool.{and_parts, and_from, cond-true, ltb-true, lt-ltb}
 use Rattle.std.proofs.lemmas.Slice.Eq.{bytes_eq-Decides}
 use Rattle.std.proofs.lemmas.Option.{cond_some}
 use Rattle.tars_model.specs.declared.value.Value.{Num}
@@ -26,7 +25,7 @@ use Rattle.session.specs.SessionSteps.{place_in, rule_in, call_with, event_in, n
 use Rattle.session.specs.Sessions.{IsInt, func_of_two, schema_of_one}
 use Rattle.session.specs.Words.{number_of}
 use Rattle.std.proofs.lemmas.Int.{ints}
-use Rattle.session.proofs.Readers.{bind_some, bind_is, some_is}
+use Rattle.session.proofs.Readers.{bind_some, some_is}
 
 -- ---- places
 

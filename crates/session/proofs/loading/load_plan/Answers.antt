@@ -1,10 +1,7 @@
-use Rattle.std.proofs.Common.{◌≡◌, ◌≤◌, List, ℕ, rules, subst, sym, ap, ◌∙◌, map, count_by, arith}
+use Rattle.std.proofs.Common.{rules}
 use Rattle.tars_base.specs.Contents.{IsFrontOfFile}
-use Rattle.session.specs.declared.script.ScriptText.{ScriptText as ScriptStruct}
 use Rattle.session.specs.InterfaceText.{InterfaceText, IsInterfaceText}
-use Rattle.session.specs.LoadAnswers.{IsExact}
-use Rattle.session.specs.Loading.{Agree, loaded_of}
-use Rattle.session.specs.Reading.{names_of, Reads}
+use Rattle.session.specs.Reading.{names_of}
 use Rattle.session.specs.ScriptText.{ScriptText, IsScriptText}
 use Rattle.session.proofs.LoadingLaws.{MOST, HasRead, HasNames, calls_read, bad_script_told, bad_interface_told, bad_value_told, loaded_told, refused_exact}
 use Rattle.session.proofs.loading.load_plan.Goals as goal

@@ -1,0 +1,16 @@
+-- The words of the command line (docs/SCRIPTS.md, "Commands").
+use Rattle.std.specs.Prelude.{◌≡◌, ℕ, Bool, true, false, ◌==◌, not, List, [], ◌∷◌, codes}
+
+-- no word is empty or begins with `-`
+abbrev pub is_word : List ℕ → Bool
+is_word [] = false
+is_word (c ∷ cs) = not (c == 45)
+
+-- `plan SCRIPT`
+pub record AskForPlan (words : List (List ℕ)) (script : List ℕ) : Type 0 where
+  pub form : words ≡ codes "plan" ∷ script ∷ []
+  pub word : is_word script ≡ true
+
+-- the words are no form of a command
+abbrev pub AreNoForm : List (List ℕ) → Type 0
+AreNoForm words = (script : List ℕ) → ¬ AskForPlan words script

@@ -1,0 +1,43 @@
+//! The program. `run` does its work over files and a sink; here stand the words of the command line,
+//! the objects of the system, and the exit status.
+#![tactic(auto)]
+
+mod real_files;
+mod real_sink;
+mod run;
+#[cfg(test)]
+mod tests;
+mod words;
+
+use real_files::RealFiles;
+use real_sink::RealSink;
+use run::run;
+use std::env;
+use std::io::ErrorKind;
+use std::process::ExitCode;
+use tars_base::Status;
+
+/// Runs the words of the command line, behind the program's name.
+fn run_words(rt: &HostRuntime) -> Status {
+    let alloc = rt.alloc();
+    let args = match env::args(rt) {
+        Ok(args) => args,
+        Err(error) if error.kind() == ErrorKind::OutOfMemory => return Status::Memory,
+        Err(_) => return Status::Usage,
+    };
+    let Ok(words) = args.skip(1).collect::<Vec<String>>(alloc) else {
+        return Status::Memory;
+    };
+    let mut files = RealFiles::new(rt);
+    let mut out = RealSink::new(rt.stdout());
+    run(alloc, &words, &mut files, &mut out)
+}
+
+fn main(rt: HostRuntime) -> ExitCode {
+    let status = run_words(&rt);
+    if let Some(line) = status.message() {
+        // Where the line can't be printed, the status still tells.
+        let _ = rt.eprintln(line);
+    }
+    ExitCode::from(status.number())
+}

@@ -1,0 +1,27 @@
+//! The words of the command line, which `specs/Words.antt` says.
+
+ghost use Rattle.std.specs.Prelude.{◌≡◌, map, string_bytes, MatchOption};
+ghost use Rattle.tars_tool.specs.Words.{AskForPlan, AreNoForm, is_word};
+
+/// Whether a word names something: it is not empty, and no option.
+fn is_word(text: &str) -> bool
+    ensures { result ≡ is_word text.now }
+{
+    match text.as_bytes() {
+        [] => false,
+        [first, ..] => *first != b'-',
+    }
+}
+
+/// The script of the words `plan SCRIPT`.
+pub fn planned_script(words: &[String]) -> Option<&str>
+    ensures { let texts = map string_bytes words.now in
+        MatchOption result (AreNoForm texts) (λ script. AskForPlan texts script.now) }
+{
+    match words {
+        [verb, script] if verb.as_str() == "plan" && is_word(script.as_str()) => {
+            Some(script.as_str())
+        }
+        _ => None,
+    }
+}
