@@ -7,6 +7,10 @@ pub mod FramesArePackets
 pub mod TrackLemmas
 pub mod Deliveries
 pub mod Moved
+pub mod LoadedLemmas
+pub mod LegalCourses
+pub mod LegalSteps
+pub mod LegalRows
 pub mod Readers
 pub mod Names
 pub mod Interface

@@ -1,5 +1,6 @@
 -- What the calls of a script go to, and what is asked and answered (docs/SCRIPTS.md, "Rules").
 use Rattle.std.specs.Prelude.{◌≡◌, ◌<◌, ◌≤◌, ◌^◌, length, ℕ, ◌&&◌, int_le, if◌then◌else◌, ℤ, pos, negsuc, ◌+ℤ◌, List, [], ◌∷◌, slice_index_or}
+use Rattle.std.specs.List.{AllByRecursion}
 use Rattle.tars_model.specs.declared.func_desc.FuncDesc.{FuncDesc}
 use Rattle.tars_model.specs.declared.interface_desc.InterfaceDesc.{InterfaceDesc}
 use Rattle.tars_model.specs.declared.value.Value.{Value, Num, out-Value}
@@ -13,6 +14,8 @@ use Rattle.session.specs.declared.rpc_packet.response.Response.{Response}
 use Rattle.session.specs.RpcPackets.{request_members, response_members, request_frame}
 use Rattle.session.specs.Sessions.{func_of_two, IsInt}
 use Rattle.session.specs.declared.loaded.Endpoint.{Endpoint}
+use Rattle.session.specs.declared.loaded.Event.{Event}
+use Rattle.session.specs.declared.loaded.Event.TheVariants.{Call}
 use Rattle.session.specs.declared.loaded.Loaded.{Loaded}
 use Rattle.session.specs.declared.loaded.Rule.{Rule}
 use Rattle.session.specs.declared.loaded.Rule.TheVariants.{Add}
@@ -108,6 +111,14 @@ pub record AreTwoInts (args : List Value) : Type 0 where
   pub are : args ≡ Num first ∷ Num second ∷ []
   pub first_int : IsInt first
   pub second_int : IsInt second
+
+-- each call passes two ints
+abbrev pub HasInts : Event → Type 0
+HasInts (Call spec) = AreTwoInts spec.args
+HasInts _ = Unit {0}
+
+abbrev pub HaveInts : List Event → Type 0
+HaveInts events = AllByRecursion HasInts events
 
 -- a packet is the request of a call with these arguments under this id
 pub record Asks (s : Service) (args : List Value) (id : ℕ) (packet : List ℕ) : Type 0 where

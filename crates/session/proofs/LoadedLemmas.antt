@@ -1,0 +1,66 @@
+-- What a loaded session is like.
+use Rattle.std.proofs.Common.{◌≡◌, ◌≤◌, ◌<◌, ◌^◌, ◌+◌, ◌⊎◌, inl, inr, ℕ, Bool, true, false, cond, List, [], ◌∷◌, ◌++◌, length, refl, sym, ap, subst, ◌∙◌, arith, length-append, lit≤}
+use Rattle.std.specs.Prelude.{codes, if◌then◌else◌}
+use Rattle.std.specs.List.{AllByRecursion}
+use Rattle.std.specs.Str.{bytes_eq}
+use Rattle.std.specs.Str.Parse.{digits_value}
+use Rattle.tars_model.specs.Members.{required, arguments_of, reply_members_of}
+use Rattle.tars_model.specs.declared.ty.Ty.{Int}
+use Rattle.session.specs.declared.loaded.CallSpec.{CallSpec}
+use Rattle.session.specs.declared.loaded.Event.{Event}
+use Rattle.session.specs.declared.loaded.Loaded.{Loaded}
+use Rattle.session.specs.declared.service.Service.{Service}
+use Rattle.session.specs.InterfaceText.{InterfaceText}
+use Rattle.session.specs.ScriptText.{ScriptText, IsScriptText, ObjectText, EventText, call, serve, work, deliver, close, object_id, object_line, MAX_LINE}
+use Rattle.session.specs.Loading.{IsLoaded, loaded_of, place_of, events_from, IsEventOf}
+use Rattle.session.specs.RpcPackets.{request_members, response_members}
+use Rattle.session.specs.Services.{IsService, AreTwoInts, HaveInts, func_of, node_of, rule_of, service_of}
+use Rattle.session.specs.Sessions.{IsInt}
+
+-- an object's id is part of a line
+id_short : (o : ObjectText) → length (object_line o) ≤ MAX_LINE → length (object_id o) ≤ 4096
+unfolding object_line
+id_short o h = let g = simp length-append at h in omega arith
+
+place_small : (i : InterfaceText) (name : List ℕ) → place_of i name < 2
+place_small i name = go (bytes_eq name i.first)
+  where
+    go : (b : Bool) → cond b 0 1 < 2
+    go true = omega arith
+    go false = omega arith
+
+service_loaded : (s : ScriptText) (i : InterfaceText) (bytes : List ℕ) → IsScriptText s bytes → length i.func ≤ 32 → IsService (service_of (loaded_of s i))
+unfolding service_of
+service_loaded s i bytes h name = record {
+  id_short = id_short s.object h.short.1.1.0;
+  func_short = omega arith;
+  timeout_small = omega (arith, h.object.timeout.high_end);
+  left_place = place_small i s.left;
+  right_place = place_small i s.right;
+  first = i.first;
+  second = i.second;
+  arguments_are = refl;
+  reply_is = refl;
+  request_is = refl;
+  response_is = refl;
+}
+
+pub service_sound : (l : Loaded) → IsLoaded l → IsService (service_of l)
+service_sound l h =
+    subst (λ (x : Loaded). IsService (service_of x)) (sym h.is)
+    (service_loaded h.script h.interface h.script_bytes h.script_form h.interface_form.func.short)
+
+pub sound_as : (l : Loaded) (s : Service) → IsLoaded l → s ≡ service_of l → IsService s
+sound_as l s h e = subst IsService (sym e) (service_sound l h)
+
+-- each call of a loaded session passes two ints
+events_are : (i : InterfaceText) (n : ℕ) (es : List EventText) → AllByRecursion (IsEventOf i) es → HaveInts (events_from n es)
+events_are i n [] h = tt
+events_are i n (call func a b ∷ es) h = (record { first = _; second = _; are = refl; first_int = h.0.1; second_int = h.0.2 }, events_are i (n + 1) es h.1)
+events_are i n (serve ∷ es) h = (tt, events_are i n es h.1)
+events_are i n (work ∷ es) h = (tt, events_are i n es h.1)
+events_are i n (deliver ∷ es) h = (tt, events_are i n es h.1)
+events_are i n (close ∷ es) h = (tt, events_are i n es h.1)
+
+pub loaded_events : (l : Loaded) → IsLoaded l → HaveInts l.events
+loaded_events l h = subst (λ (x : Loaded). HaveInts x.events) (sym h.is) (events_are h.interface 1 h.script.events h.agree.events)
