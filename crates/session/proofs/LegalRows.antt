@@ -97,7 +97,7 @@ count_from a (row ∷ rows) =
     let p = count_from (a + cond (was_sent row) 1 0) rows in
     let q = count_from (0 + cond (was_sent row) 1 0) rows in omega arith
 
-some_same : {A : Type 0} (x y : A) → Some x ≡ Some y → y ≡ x
+pub some_same : {A : Type 0} (x y : A) → Some x ≡ Some y → y ≡ x
 some_same x y e = cc
 
 drop_more : {A : Type 0} (n : ℕ) (xs : List A) (y : A) (more : List A) → drop n xs ≡ y ∷ more → (drop (suc n) xs ≡ more) × (slice_get xs n ≡ Some y)
@@ -115,11 +115,11 @@ drop_none (suc n) (x ∷ xs) e = drop_none n xs e
 -- one place further, behind a call that was sent or not
 behind_unsent : {s : Service} {xs : List Scripted} {n k : ℕ} {calls : List Pending} {os : List Opened} {all : List GotFate} {row : Row} (x : Scripted) (call : Pending)
     → call.id ≡ None → IsAt s xs n k calls os all row → IsAt s (x ∷ xs) n (suc k) (call ∷ calls) os all row
-behind_unsent {k = k} {calls = calls} x call no p = record {
+behind_unsent {k = k} {calls = calls} x call none_is p = record {
   m = p.m;
   x = p.x;
   call = p.call;
-  count = rw no p.count;
+  count = rw none_is p.count;
   row_is = p.row_is;
   x_at = p.x_at;
   is = p.is;
@@ -127,11 +127,11 @@ behind_unsent {k = k} {calls = calls} x call no p = record {
 
 behind_sent : {s : Service} {xs : List Scripted} {n k : ℕ} {calls : List Pending} {os : List Opened} {all : List GotFate} {row : Row} (x : Scripted) (call : Pending) (id : CallId)
     → call.id ≡ Some id → IsAt s xs (n + 1) k calls os all row → IsAt s (x ∷ xs) n (suc k) (call ∷ calls) os all row
-behind_sent {k = k} {calls = calls} x call id yes p = record {
+behind_sent {k = k} {calls = calls} x call id id_is p = record {
   m = p.m;
   x = p.x;
   call = p.call;
-  count = rw yes (let q = count_from 1 (take k (map row_of calls)) in let c = p.count in omega arith);
+  count = rw id_is (let q = count_from 1 (take k (map row_of calls)) in let c = p.count in omega arith);
   row_is = p.row_is;
   x_at = p.x_at;
   is = p.is;
@@ -182,11 +182,11 @@ not_refused : (why : Refusal) (packet : ℕ) (r : Reply) → outcome packet r �
 not_refused why packet (sum n) e = cc
 not_refused why packet (code n) e = cc
 
-not_closed : (packet : ℕ) (r : Reply) → outcome packet r ≡ Closed → ⊥
+pub not_closed : (packet : ℕ) (r : Reply) → outcome packet r ≡ Closed → ⊥
 not_closed packet (sum n) e = cc
 not_closed packet (code n) e = cc
 
-names_packet : (packet : ℕ) (r : Reply) → packet_of (outcome packet r) ≡ Some packet
+pub names_packet : (packet : ℕ) (r : Reply) → packet_of (outcome packet r) ≡ Some packet
 names_packet packet (sum n) = refl
 names_packet packet (code n) = refl
 
@@ -197,7 +197,7 @@ full_exactly (is_late h c) = (λ e. absurd (cc), λ g. absurd (omega arith))
 full_exactly (is_open h c f) = (λ e. absurd (cc), λ g. absurd (omega arith))
 full_exactly (is_stopped h c f) = (λ e. absurd (cc), λ g. absurd (omega arith))
 full_exactly (is_missed h c f) = (λ e. absurd (cc), λ g. absurd (omega arith))
-full_exactly {s = s} {n = n} (is_replied {x = x} h c f o) =
+full_exactly {s = s} {n = n} {x = x} (is_replied h c f o) =
     (λ e. absurd (not_refused refusal.Full (n + 1) (reply_to s x.spec.args) e), λ g. absurd (omega arith))
 
 pub late_exactly : {s : Service} {n : ℕ} {x : Scripted} {fate : Option GotFate} {own : Option Opened} {call : Pending}

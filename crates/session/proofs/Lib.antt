@@ -11,6 +11,8 @@ pub mod LoadedLemmas
 pub mod LegalCourses
 pub mod LegalSteps
 pub mod LegalRows
+pub mod LegalReplies
+pub mod LegalLaw
 pub mod Readers
 pub mod Names
 pub mod Interface

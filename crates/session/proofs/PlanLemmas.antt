@@ -6,7 +6,7 @@ use Rattle.wire_words.specs.Packets.{packets_of, IsPacket}
 use Rattle.wire_words.proofs.PacketLaws.{packets_of-joined}
 use Rattle.session.specs.Courses.{joined}
 
-pub joined-append : (xs ys : List (List ℕ)) → joined (xs ++ ys) ≡ joined xs ++ joined ys
+joined-append : (xs ys : List (List ℕ)) → joined (xs ++ ys) ≡ joined xs ++ joined ys
 joined-append [] ys = refl
 joined-append (x ∷ xs) ys = ap (λ zs. x ++ zs) (joined-append xs ys) ∙ sym (append_assoc x (joined xs) (joined ys))
 
