@@ -1,6 +1,6 @@
 -- The report of a loaded script is legal.
-use Rattle.std.proofs.Common.{◌≡◌, ◌<◌, ◌≤◌, ◌↔◌, ◌+◌, ℕ, zero, suc, Bool, true, false, Some, List, [], ◌∷◌, length, take, drop, map, slice_get, refl, sym, ap, subst, ◌∙◌, arith}
-use Rattle.std.specs.List.{AllByRecursion}
+use Rattle.std.proofs.Common.{◌≡◌, ◌<◌, ◌≤◌, ◌↔◌, ◌+◌, ℕ, zero, suc, Bool, true, false, Some, List, [], ◌∷◌, ◌++◌, None, length, take, map, slice_get, refl, sym, ap, subst, ◌∙◌, arith}
+use Rattle.std.specs.List.{AllByRecursion, filter_map}
 use Rattle.std.proofs.lemmas.List.{take-take}
 use Rattle.wire_words.specs.Packets.{packets_of}
 use Rattle.session.specs.declared.link_log.GotFate.{GotFate}
@@ -13,19 +13,19 @@ use Rattle.session.specs.declared.report.End.TheVariants.{Closed, Refused}
 use Rattle.session.specs.declared.report.Refusal.TheVariants as refusal
 use Rattle.session.specs.declared.report.Row.{Row}
 use Rattle.session.specs.declared.service.Service.{Service}
-use Rattle.session.specs.Courses.{WIDTH, Course, Opened, opened, answer_frame, answered_calls, joined, received, after_all}
-use Rattle.session.specs.Planned.{row_of, got_rows, report_of, link_log, planned}
-use Rattle.session.specs.Services.{IsService, service_of}
+use Rattle.session.specs.Courses.{WIDTH, Course, Opened, opened, answer_frame, outcome, joined, received, after_all}
+use Rattle.session.specs.Planned.{row_of, sent_row, got_rows, picked_step, reported_step, report_of, link_log, planned}
+use Rattle.session.specs.Services.{IsService, reply_to, service_of}
 use Rattle.session.specs.ScriptText.{EventText, call, serve, work, deliver, close}
 use Rattle.session.specs.Loading.{IsLoaded, events_from}
 use Rattle.session.specs.Tracks.{IsOpened}
-use Rattle.session.specs.Legal.{Scripted, scripted, scripted_after, sent_before, IsUsedPacket, IsUsedId, IsReplied, packet_of, IsLegal}
+use Rattle.session.specs.Legal.{Scripted, scripted, scripted_after, sent_before, IsUsedPacket, IsUsedId, IsReplied, IsRefusal, pick_of, packet_of, picked_of, IsSentAs, IsLegal}
 use Rattle.session.proofs.FramesArePackets.{answers_are_packets}
 use Rattle.session.proofs.LoadedLemmas.{service_sound}
 use Rattle.session.proofs.PlanLemmas.{All-take, first_packets, map-take}
 use Rattle.session.proofs.LegalCourses.{opened_are}
 use Rattle.session.proofs.LegalSteps.{IsSoundCourse, run_sound}
-use Rattle.session.proofs.LegalRows.{IsAt, at, headings, scripted_calls, ids_rise, calls_sent, full_exactly, late_exactly, some_same}
+use Rattle.session.proofs.LegalRows.{IsAt, at, headings, scripted_calls, ids_rise, calls_sent, full_exactly, late_exactly, unsent_exactly, picked_exactly, rule_exactly, sent_exactly, picks_same, reports_same, some_same}
 use Rattle.session.proofs.LegalReplies.{all_got_rows, IsNamed, used_named, closed_exactly, replied_as}
 
 -- each call is of the one function
@@ -77,6 +77,16 @@ late_at {k = k} {calls = calls} x e p =
     (subst (λ (y : Scripted). ((row_of p.call).end ≡ Refused (refusal.Closed 0)) ↔ ((y.closed ≡ true) × (sent_before (map row_of calls) k < WIDTH))) same
     (subst (λ (m : ℕ). ((row_of p.call).end ≡ Refused (refusal.Closed 0)) ↔ ((p.x.closed ≡ true) × (m < WIDTH))) count (late_exactly p.is)))
 
+-- A fact on a call is one on its row.
+on_row : {s : Service} {xs : List Scripted} {n k : ℕ} {calls : List Pending} {os : List Opened} {all : List GotFate} {row : Row}
+    (P : Row → Type 0) (p : IsAt s xs n k calls os all row) → P (row_of p.call) → P row
+on_row P p h = subst P (sym p.row_is) h
+
+-- a place has one scripted call
+one_call : {s : Service} {xs : List Scripted} {n k : ℕ} {calls : List Pending} {os : List Opened} {all : List GotFate} {row : Row}
+    (x : Scripted) (p : IsAt s xs n k calls os all row) → slice_get xs k ≡ Some x → p.x ≡ x
+one_call x p e = sym (some_same p.x x (sym p.x_at ∙ e))
+
 legal_course : (l : Loaded) (c : Course) → IsLoaded l → IsSoundCourse (service_of l) (scripted l.events) c → IsLegal l (report_of (service_of l) c)
 legal_course l c h t =
     let s = service_of l in
@@ -85,11 +95,28 @@ legal_course l c h t =
     record {
       link = link_log s c;
       one_link = refl;
+      node = refl;
+      whole = (refl, refl);
       rows = headings t.calls ∙ scripted_calls false l.events;
       ids = ids_rise t.calls;
       full = λ k row e. full_at (at os c.fates t.calls refl refl k row e);
       late = λ k row x e f. late_at x f (at os c.fates t.calls refl refl k row e);
+      unsent = λ k row e.
+        let p = at os c.fates t.calls refl refl k row e in
+        on_row (λ (r : Row). (r.id ≡ None) ↔ IsRefusal r.end) p (unsent_exactly p.is);
+      picks = λ k row e.
+        let p = at os c.fates t.calls refl refl k row e in
+        on_row (λ (r : Row). r.pick ≡ pick_of r.end) p (picked_exactly p.is);
       sends = calls_sent t.calls;
+      requests = λ k row x id e f own.
+        let p = at os c.fates t.calls refl refl k row e in
+        subst (λ (y : Scripted). IsSentAs l (map (sent_row s) os) y.spec id) (one_call x p f)
+        (sent_exactly l os p.m p.x id (All-at (λ (x : Scripted). x.spec.func ≡ 0) (scripted l.events) k p.x (first_function l h) p.x_at) p.is
+        (ap (λ (r : Row). r.id) (sym p.row_is) ∙ own));
+      rule = λ k row x packet e f place.
+        let p = at os c.fates t.calls refl refl k row e in
+        subst (λ (y : Scripted). row.end ≡ outcome packet (reply_to s y.spec.args)) (one_call x p f)
+        (ap (λ (r : Row). r.end) p.row_is ∙ rule_exactly packet p.is (ap (λ (r : Row). packet_of r.end) (sym p.row_is) ∙ place));
       replies = λ k row e.
         let p = at os c.fates t.calls refl refl k row e in
         subst (λ (got : List GotRow). IsReplied l got row row.end) (sym whole)
@@ -103,6 +130,9 @@ legal_course l c h t =
       used = λ packet frame id u.
         let n = used_named os t.calls packet frame id (subst (λ (got : List GotRow). IsUsedPacket got packet frame id) whole u) in
         (n.k, n.row, n.there, n.id_is, n.end_is);
+      routes =
+          ap (λ steps. steps ++ filter_map reported_step c.calls) (picks_same c.calls)
+          ∙ ap (λ steps. filter_map picked_of (map row_of c.calls) ++ steps) (reports_same c.calls);
     }
 
 pub planned_is_legal : (l : Loaded) → IsLoaded l → IsLegal l (planned l)

@@ -118,9 +118,9 @@ closed_exactly {s = s} {fates = fates} os n x call h is = go (slice_get fates n)
         → ((row_of call).end ≡ Closed) ↔ IsLeft (all_got_rows s os fates) (row_of call)
     go fate own call (is_full w) ef eo = (λ e. absurd (cc), λ g. absurd (let i = g.1 in cc))
     go fate own call (is_late w c) ef eo = (λ e. absurd (cc), λ g. absurd (let i = g.1 in cc))
-    go fate own call (is_open w c f) ef eo = (λ e. (record { 0 = n + 1 }, refl, left fate ef (λ u. cc)), λ g. refl)
-    go fate own call (is_stopped w c f) ef eo = (λ e. (record { 0 = n + 1 }, refl, left fate ef (λ u. cc)), λ g. refl)
-    go fate own call (is_missed w c f) ef eo = (λ e. (record { 0 = n + 1 }, refl, left fate ef (λ u. cc)), λ g. refl)
+    go fate own call (is_open w c f o) ef eo = (λ e. (record { 0 = n + 1 }, refl, left fate ef (λ u. cc)), λ g. refl)
+    go fate own call (is_stopped w c f o) ef eo = (λ e. (record { 0 = n + 1 }, refl, left fate ef (λ u. cc)), λ g. refl)
+    go fate own call (is_missed w c f o) ef eo = (λ e. (record { 0 = n + 1 }, refl, left fate ef (λ u. cc)), λ g. refl)
     go fate own call (is_replied w c f o) ef eo =
         (λ e. absurd (not_closed (n + 1) (reply_to s x.spec.args) e),
         λ g. absurd (g.2 (subst (λ (id : CallId). IsUsedId (all_got_rows s os fates) id) (some_same g.0 (record { 0 = n + 1 }) (sym g.1))
@@ -162,9 +162,9 @@ replied_as l fates os n x call first is = go (slice_get fates n) (slice_get os n
         → IsReplied l (all_got_rows (service_of l) os fates) (row_of call) (row_of call).end
     go fate own call (is_full w) ef eo = tt
     go fate own call (is_late w c) ef eo = tt
-    go fate own call (is_open w c f) ef eo = tt
-    go fate own call (is_stopped w c f) ef eo = tt
-    go fate own call (is_missed w c f) ef eo = tt
+    go fate own call (is_open w c f o) ef eo = tt
+    go fate own call (is_stopped w c f o) ef eo = tt
+    go fate own call (is_missed w c f o) ef eo = tt
     go fate own call (is_replied w c f o) ef eo =
         reply_came l (all_got_rows (service_of l) os fates) x n (reply_to (service_of l) x.spec.args) first
         (λ (k : ℤ) q. code_unknown _ _ k q)
