@@ -87,11 +87,11 @@ unfolding got
 one_came s c ps o e =
     rw (length-got_rows ps c.fates e, got_rows-append ps c.fates (answer_frame s o) (fate_of o.id c.calls) e) refl
 
-got_fates : (s : Service) (c : Course) (o : Opened) → length (got s c o).fates ≡ length c.fates + 1
+pub got_fates : (s : Service) (c : Course) (o : Opened) → length (got s c o).fates ≡ length c.fates + 1
 unfolding got
 got_fates s c o = simp length-append refl
 
-got_opened : (s : Service) (c : Course) (o : Opened) → opened (got s c o) ≡ opened c
+pub got_opened : (s : Service) (c : Course) (o : Opened) → opened (got s c o) ≡ opened c
 unfolding got
 got_opened s c o = opened-settle o.id (outcome (length c.fates + 1) (reply_to s o.args)) c.calls c.args
 

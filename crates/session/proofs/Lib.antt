@@ -7,6 +7,12 @@ pub mod FramesArePackets
 pub mod TrackLemmas
 pub mod Deliveries
 pub mod Moved
+pub mod LoadedLemmas
+pub mod LegalCourses
+pub mod LegalSteps
+pub mod LegalRows
+pub mod LegalReplies
+pub mod LegalLaw
 pub mod Readers
 pub mod Names
 pub mod Interface
@@ -21,6 +27,5 @@ pub mod ScriptLaws
 pub mod SessionLaws
 pub mod LoadingLaws
 pub mod CallLemmas
-pub mod LoadedLemmas
 pub mod ReportLemmas
 pub mod EventLemmas

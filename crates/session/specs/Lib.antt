@@ -6,6 +6,7 @@ pub mod Sessions
 pub mod Services
 pub mod Courses
 pub mod Planned
+pub mod Legal
 pub mod Loading
 pub mod Tracks
 pub mod Scan
