@@ -1,23 +1,19 @@
 -- In every course the calls, their ends and the packets that came go together.
-use Rattle.std.proofs.Common.{◌≡◌, ◌<◌, ◌≤◌, ◌^◌, ◌+◌, ℕ, zero, suc, Bool, true, false, cond, Option, Some, None, List, [], ◌∷◌, ◌++◌, length, take, drop, map, fold, eqb, refl, sym, ap, subst, ◌∙◌, arith, length-append, length-drop, append_assoc, append-nil, add-one, eq-eqb, ne_eqb, ltb-true, leb-true, leb-false}
-use Rattle.std.specs.Prelude.{nat_lt, nat_le}
+use Rattle.std.proofs.Common.{◌≡◌, ◌<◌, ◌≤◌, ◌+◌, ℕ, true, false, Some, None, List, [], ◌∷◌, ◌++◌, length, drop, map, eqb, refl, sym, subst, arith, append-nil, eq-eqb, ne_eqb}
 use Rattle.std.specs.List.{AllByRecursion, list_any}
-use Rattle.std.proofs.lemmas.List.{take-append-le, map-append, length-take-le}
 use Rattle.tars_model.specs.declared.value.Value.{Value}
 use Rattle.session.specs.declared.link_log.GotFate.{GotFate}
 use Rattle.session.specs.declared.link_log.GotFate.TheVariants.{Used, Late}
 use Rattle.session.specs.declared.loaded.CallSpec.{CallSpec}
 use Rattle.session.specs.declared.pending.Pending.{Pending}
-use Rattle.session.specs.declared.report.CallId.{CallId}
 use Rattle.session.specs.declared.report.End.{End}
 use Rattle.session.specs.declared.report.End.TheVariants.{Closed}
 use Rattle.session.specs.declared.report.Refusal.TheVariants as refusal
 use Rattle.session.specs.declared.service.Service.{Service}
-use Rattle.session.specs.Courses.{WIDTH, Course, Opened, opened, opened_among, with_id, began, not_sent, open_under, live_node, is_open_under, settle, outcome, fate_of, got, closed_call, sent_frame, answer_frame, joined}
-use Rattle.session.specs.Services.{IsService, AreTwoInts, reply_to}
+use Rattle.session.specs.Courses.{WIDTH, Opened, opened_among, with_id, not_sent, open_under, live_node, is_open_under, settle, outcome, fate_of, closed_call}
+use Rattle.session.specs.Services.{AreTwoInts, reply_to}
 use Rattle.session.specs.Tracks.{IsOpened}
 use Rattle.session.specs.Legal.{Scripted}
-use Rattle.session.proofs.Deliveries.{got_fates, got_opened}
 
 -- a call that was sent and has ended
 abbrev pub ended : CallSpec → ℕ → End → Pending

@@ -5,7 +5,6 @@ use Rattle.std.proofs.lemmas.List.{take-take}
 use Rattle.wire_words.specs.Packets.{packets_of}
 use Rattle.session.specs.declared.link_log.GotFate.{GotFate}
 use Rattle.session.specs.declared.link_log.GotRow.{GotRow}
-use Rattle.session.specs.declared.loaded.Event.{Event}
 use Rattle.session.specs.declared.loaded.Loaded.{Loaded}
 use Rattle.session.specs.declared.pending.Pending.{Pending}
 use Rattle.session.specs.declared.report.CallId.{CallId}
@@ -14,7 +13,7 @@ use Rattle.session.specs.declared.report.Refusal.TheVariants as refusal
 use Rattle.session.specs.declared.report.Row.{Row}
 use Rattle.session.specs.declared.service.Service.{Service}
 use Rattle.session.specs.Courses.{WIDTH, Course, Opened, opened, answer_frame, outcome, joined, received, after_all}
-use Rattle.session.specs.Planned.{row_of, sent_row, got_rows, picked_step, reported_step, report_of, link_log, planned}
+use Rattle.session.specs.Planned.{row_of, sent_row, got_rows, reported_step, report_of, link_log, planned}
 use Rattle.session.specs.Services.{IsService, reply_to, service_of}
 use Rattle.session.specs.ScriptText.{EventText, call, serve, work, deliver, close}
 use Rattle.session.specs.Loading.{IsLoaded, events_from}
@@ -26,7 +25,7 @@ use Rattle.session.proofs.PlanLemmas.{All-take, first_packets, map-take}
 use Rattle.session.proofs.LegalCourses.{opened_are}
 use Rattle.session.proofs.LegalSteps.{IsSoundCourse, run_sound}
 use Rattle.session.proofs.LegalRows.{IsAt, at, headings, scripted_calls, ids_rise, calls_sent, full_exactly, late_exactly, unsent_exactly, picked_exactly, rule_exactly, sent_exactly, picks_same, reports_same, some_same}
-use Rattle.session.proofs.LegalReplies.{all_got_rows, IsNamed, used_named, closed_exactly, replied_as}
+use Rattle.session.proofs.LegalReplies.{all_got_rows, used_named, closed_exactly, replied_as}
 
 -- each call is of the one function
 calls_first : (closed : Bool) (n : ℕ) (es : List EventText) → AllByRecursion (λ (x : Scripted). x.spec.func ≡ 0) (scripted_after closed (events_from n es))

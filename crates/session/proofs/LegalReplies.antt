@@ -1,11 +1,8 @@
 -- What the rows of a sound course say of the packets that came.
-use Rattle.std.proofs.Common.{◌≡◌, ◌≢◌, ◌<◌, ◌≤◌, ◌↔◌, ◌+◌, ℕ, zero, suc, ℤ, pos, negsuc, Bool, true, false, cond, Option, Some, None, List, [], ◌∷◌, length, take, map, slice_get, refl, sym, ap, subst, ◌∙◌, arith}
-use Rattle.std.specs.Prelude.{int_le, ◌&&◌}
-use Rattle.tars_model.specs.declared.value.Value.{Value, Num}
-use Rattle.tars_model.specs.Members.{reply_members_of}
-use Rattle.tars_codec.specs.Written.{written}
+use Rattle.std.proofs.Common.{◌≡◌, ◌↔◌, ◌+◌, ℕ, zero, suc, ℤ, pos, Bool, true, false, cond, Option, Some, List, [], ◌∷◌, length, take, map, slice_get, refl, sym, ap, subst, ◌∙◌, arith}
+use Rattle.tars_model.specs.declared.value.Value.{Value}
 use Rattle.session.specs.declared.link_log.GotFate.{GotFate}
-use Rattle.session.specs.declared.link_log.GotFate.TheVariants.{Used, Late}
+use Rattle.session.specs.declared.link_log.GotFate.TheVariants.{Used}
 use Rattle.session.specs.declared.link_log.GotRow.{GotRow}
 use Rattle.session.specs.declared.loaded.Loaded.{Loaded}
 use Rattle.session.specs.declared.pending.Pending.{Pending}
@@ -15,9 +12,9 @@ use Rattle.session.specs.declared.report.Row.{Row}
 use Rattle.session.specs.declared.service.Service.{Service}
 use Rattle.session.specs.Courses.{Opened, outcome, answer_frame}
 use Rattle.session.specs.Planned.{row_of, got_rows}
-use Rattle.session.specs.Services.{Reply, sum, code, UNKNOWN, added, reply_to, argument, response_with, service_of, func_of}
+use Rattle.session.specs.Services.{Reply, sum, code, UNKNOWN, reply_to, response_with, service_of}
 use Rattle.session.specs.RpcPackets.{response_frame}
-use Rattle.session.specs.Legal.{Scripted, IsUsedPacket, IsUsedId, CameIn, IsReplied, packet_of}
+use Rattle.session.specs.Legal.{Scripted, IsUsedPacket, IsUsedId, IsReplied, packet_of}
 use Rattle.session.proofs.LegalCourses.{IsSound, none, full, late, waits, stopped, missed, replied, ended, opened_as}
 use Rattle.session.proofs.LegalRows.{IsCall, is_full, is_late, is_open, is_stopped, is_missed, is_replied, some_same, not_closed, names_packet}
 

@@ -1,14 +1,10 @@
 -- What the rows of a sound course say.
-use Rattle.std.proofs.Common.{◌≡◌, ◌≢◌, ◌<◌, ◌≤◌, ◌↔◌, ◌+◌, ℕ, zero, suc, ℤ, pos, Bool, true, false, cond, Option, Some, None, List, [], ◌∷◌, ◌++◌, length, take, drop, map, fold, filter, count_by, slice_get, refl, sym, ap, subst, ◌∙◌, arith, add-one}
-use Rattle.std.specs.Prelude.{int_le, ◌&&◌, negsuc}
+use Rattle.std.proofs.Common.{◌≡◌, ◌<◌, ◌≤◌, ◌↔◌, ◌+◌, ℕ, zero, suc, Bool, true, false, cond, Option, Some, None, List, [], ◌∷◌, take, drop, map, fold, filter, count_by, slice_get, refl, sym, ap, ◌∙◌, arith, add-one}
 use Rattle.std.specs.List.{filter_map, cons_option}
 use Rattle.tars_model.specs.declared.value.Value.{Value}
-use Rattle.tars_model.specs.Members.{reply_members_of}
 use Rattle.session.specs.declared.link_log.GotFate.{GotFate}
 use Rattle.session.specs.declared.link_log.GotFate.TheVariants.{Used, Late}
-use Rattle.session.specs.declared.link_log.GotRow.{GotRow}
 use Rattle.session.specs.declared.link_log.SentRow.{SentRow}
-use Rattle.session.specs.declared.loaded.CallSpec.{CallSpec}
 use Rattle.session.specs.declared.loaded.Event.{Event}
 use Rattle.session.specs.declared.loaded.Event.TheVariants.{Call, Serve, Work, Deliver, Close}
 use Rattle.session.specs.declared.loaded.Loaded.{Loaded}
@@ -21,10 +17,9 @@ use Rattle.session.specs.declared.report.Refusal.{Refusal}
 use Rattle.session.specs.declared.report.Refusal.TheVariants as refusal
 use Rattle.session.specs.declared.report.Row.{Row}
 use Rattle.session.specs.declared.service.Service.{Service}
-use Rattle.session.specs.Courses.{WIDTH, NODE, Opened, opened_among, not_sent, open_under, live_node, outcome, answer_frame}
+use Rattle.session.specs.Courses.{WIDTH, Opened, opened_among, not_sent, open_under, live_node, outcome}
 use Rattle.session.specs.Planned.{row_of, sent_row, picked_step, reported_step}
-use Rattle.session.specs.Services.{Reply, sum, code, UNKNOWN, added, reply_to, response_with, service_of, func_of}
-use Rattle.session.specs.RpcPackets.{response_frame}
+use Rattle.session.specs.Services.{Reply, sum, code, reply_to, service_of}
 use Rattle.session.specs.Legal.{Scripted, scripted_after, call_of, heading_of, heading_of_call, was_sent, sent_before, ids_of, RiseAbove, IsRefusal, pick_of, packet_of, picked_of, reported_of, IsSentAs}
 use Rattle.session.proofs.LegalCourses.{IsSound, none, full, late, waits, stopped, missed, replied, ended, opened_as}
 

@@ -1,5 +1,5 @@
 -- Each event keeps a course sound.
-use Rattle.std.proofs.Common.{◌≡◌, ◌<◌, ◌≤◌, ◌+◌, ◌-◌, ℕ, zero, suc, Bool, true, false, cond, Some, None, List, [], ◌∷◌, ◌++◌, length, take, drop, map, fold, refl, sym, ap, subst, ◌∙◌, arith, length-append, length-drop, append_assoc, append-nil, add-one}
+use Rattle.std.proofs.Common.{◌≡◌, ◌≤◌, ◌+◌, ◌-◌, ℕ, zero, suc, Bool, true, false, cond, None, List, [], ◌∷◌, ◌++◌, length, take, drop, map, fold, refl, sym, ap, subst, ◌∙◌, arith, length-append, length-drop, append_assoc, append-nil, add-one}
 use Rattle.std.specs.Prelude.{nat_lt, nat_le}
 use Rattle.std.specs.List.{AllByRecursion}
 use Rattle.std.proofs.lemmas.Bool.{ltb-true, leb-true, leb-false}
@@ -10,13 +10,10 @@ use Rattle.session.specs.declared.loaded.CallSpec.{CallSpec}
 use Rattle.session.specs.declared.loaded.Event.{Event}
 use Rattle.session.specs.declared.loaded.Event.TheVariants.{Call, Serve, Work, Deliver, Close}
 use Rattle.session.specs.declared.loaded.Loaded.{Loaded}
-use Rattle.session.specs.declared.pending.Pending.{Pending}
-use Rattle.session.specs.declared.report.CallId.{CallId}
 use Rattle.session.specs.declared.report.Refusal.TheVariants as refusal
 use Rattle.session.specs.declared.service.Service.{Service}
-use Rattle.session.specs.Courses.{WIDTH, Course, Opened, start, opened, opened_among, with_id, began, not_sent, open_under, live_node, got, closed_call, sent_frame, answer_frame, joined, offered, answered_calls, answers_stream, requests_stream, step, after_all}
-use Rattle.session.specs.Services.{IsService, AreTwoInts, HasInts, HaveInts, service_of}
-use Rattle.session.specs.Tracks.{IsOpened}
+use Rattle.session.specs.Courses.{WIDTH, Course, Opened, start, opened, opened_among, with_id, began, not_sent, open_under, live_node, got, closed_call, sent_frame, answer_frame, joined, offered, answers_stream, step, after_all}
+use Rattle.session.specs.Services.{IsService, AreTwoInts, HaveInts, service_of}
 use Rattle.session.specs.Loading.{IsLoaded}
 use Rattle.session.specs.Legal.{Scripted, scripted, scripted_after}
 use Rattle.session.proofs.Deliveries.{Comes, comes, got_fates, got_opened, opened-closed}

@@ -1,7 +1,6 @@
 -- What holds of a report of any script that was loaded (docs/SCRIPTS.md, "Reports").
-use Rattle.std.specs.Prelude.{◌≡◌, ◌≢◌, ◌<◌, ◌≤◌, ◌+◌, ◌↔◌, ℕ, suc, ℤ, pos, Bool, true, false, Option, Some, None, is_some, option_map, List, [], ◌∷◌, ◌++◌, take, map, filter, count_by, slice_get}
-use Rattle.std.specs.List.{AllByRecursion, filter_map}
-use Rattle.tars_model.specs.declared.value.Value.{Value}
+use Rattle.std.specs.Prelude.{◌≡◌, ◌≢◌, ◌<◌, ◌≤◌, ◌+◌, ◌↔◌, ℕ, ℤ, pos, Bool, true, false, Option, Some, None, is_some, option_map, List, [], ◌∷◌, ◌++◌, take, map, filter, count_by, slice_get}
+use Rattle.std.specs.List.{filter_map}
 use Rattle.tars_model.specs.Members.{arguments_of, reply_members_of}
 use Rattle.tars_codec.specs.Written.{written}
 use Rattle.session.specs.RpcPackets.{request_frame, response_frame}

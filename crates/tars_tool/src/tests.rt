@@ -1,3 +1,6 @@
+mod events;
+mod texts;
+
 use crate::run::run;
 use std::alloc::Global;
 use std::test::Fail;
@@ -51,7 +54,7 @@ fn files_of(alloc: Global, files: &[(&str, &str)], failing: u64) -> Result<MemFi
 /// A sink that takes a byte at a time, of which one write is to fail; 0 is none.
 fn sink_of(alloc: Global, failing: u64) -> Result<MemSink, Memory> {
     let mut sink = MemSink::new(alloc, 1, vec![in alloc; failing]?);
-    sink.reserve(alloc, 1000)?;
+    sink.reserve(alloc, 4000)?;
     Ok(sink)
 }
 

@@ -5,6 +5,7 @@ use Rattle.session.specs.declared.pending.Pending.{Pending}
 use Rattle.session.specs.declared.report.End.{End}
 use Rattle.session.specs.Courses.{is_open_under, settle}
 use Rattle.session.specs.Tracks.{IsOpenAt}
+use Rattle.session.proofs.SameHead.{same_head}
 use Rattle.session.proofs.plan.desk.open_place.Goals as goal
 
 -- a list with another element at a place
@@ -13,9 +14,6 @@ set_split zero [] y h = absurd (omega arith)
 set_split zero (x ∷ xs) y h = refl
 set_split (suc k) [] y h = absurd (omega arith)
 set_split (suc k) (x ∷ xs) y h = ap (λ zs. x ∷ zs) (set_split k xs y (omega arith))
-
-same_head : {A : Type 0} {x y : A} {xs ys : List A} → x ∷ xs ≡ y ∷ ys → x ≡ y
-same_head e = cc
 
 open_at : (id : ℕ) (calls : List Pending) (k : ℕ) (x : Pending) → k < length calls → x ≡ get_or calls k x → true ≡ is_open_under id x
     → ((end : End) → settle id end calls ≡ take k calls ++ settle id end (drop k calls))

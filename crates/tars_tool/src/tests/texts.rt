@@ -1,0 +1,178 @@
+//! Texts that are accepted and texts that are refused, as a run of the program tells.
+
+use super::{CALC, FIRST, REPORT, files_of, sink_of, words_of};
+use crate::run::run;
+use std::alloc::Global;
+use std::test::Fail;
+use tars_base::{Memory, Status};
+
+/// How a run ends, and what it writes.
+fn ran(alloc: Global, script: &str, interface: &str) -> Result<(Status, String), Memory> {
+    let files = [("first.plan", script), ("calc.tars", interface)];
+    let mut files = files_of(alloc, &files, 0)?;
+    let mut sink = sink_of(alloc, 0)?;
+    let words = words_of(alloc, &["plan", "first.plan"])?;
+    let status = run(alloc, &words, &mut files, &mut sink);
+    let text = String::from_utf8(sink.bytes().to_vec(alloc)?).unwrap_or(String::new(alloc));
+    Ok((status, text))
+}
+
+#[test]
+fn a_script_of_another_form_is_refused(rt: HostRuntime) -> Result<(), Fail> {
+    let alloc = rt.alloc();
+    // what stands in the script, and what is put in its place
+    let cases = [
+        ("client calc.tars\n", ""),
+        ("client calc.tars", "client  calc.tars"),
+        ("interface M::Calc", "interface M::struct"),
+        ("interface M::Calc", "interface M.Calc"),
+        ("M::Calc", "M::abcdefghijklmnopqrstuvwxyzABCDEFG"),
+        ("A.B.C@tcp", "A.B@tcp"),
+        ("A.B.C@tcp", "A.B.C@udp"),
+        ("-h 127.0.0.1", "-h 127.0.0.1_"),
+        ("-h 127.0.0.1", "-h"),
+        ("-p 9001", "-p 0"),
+        ("-p 9001", "-p 65536"),
+        ("-p 9001", "-p 09001"),
+        ("-t 3000", "-t 0"),
+        ("-t 3000", "-t 3600001"),
+        ("servant add add a b", "servant add sub a b"),
+        ("servant add add a b", "servant add add a"),
+        ("call 1 add 2 3", "call 2 add 2 3"),
+        ("call 1 add 2 3", "call 1 add 2"),
+        ("call 1 add 2 3", "call 1 add 02 3"),
+        ("call 1 add 2 3", "call 1 add -0 3"),
+        ("serve 1", "serve 2"),
+        ("serve 1", "serve"),
+        ("work 1", "work 1 "),
+        ("deliver 1", "\ndeliver 1"),
+        ("deliver 1", "deliver 1\nend"),
+    ];
+    for (old, new) in cases {
+        let script = FIRST.replace(alloc, old, new)?;
+        let (status, text) = ran(alloc, &script, CALC)?;
+        assert_eq!(rt; status, Status::Refused, "at {new}");
+        assert_eq!(rt;
+            text.as_str(),
+            "refused first.plan script 1 0\n",
+            "at {new}"
+        );
+    }
+    Ok(())
+}
+
+#[test]
+fn an_interface_file_of_another_form_is_refused(rt: HostRuntime) -> Result<(), Fail> {
+    let alloc = rt.alloc();
+    // what stands in the interface file, and what is put in its place
+    let cases = [
+        ("module M", "module  M"),
+        ("module M", "module M2"),
+        ("module M", "module interface"),
+        ("Calc", "abcdefghijklmnopqrstuvwxyzABCDEFG"),
+        ("Calc", "vector"),
+        ("int add", "long add"),
+        ("int add", "void add"),
+        ("int b", "int a"),
+        ("int b", "int"),
+        ("); }; };", ") }; };"),
+        ("}; };\n", "}; }"),
+        ("}; };\n", "}; };\n\n"),
+    ];
+    for (old, new) in cases {
+        let interface = CALC.replace(alloc, old, new)?;
+        let (status, text) = ran(alloc, FIRST, &interface)?;
+        assert_eq!(rt; status, Status::Refused, "at {new}");
+        assert_eq!(rt; text.as_str(), "refused calc.tars parse 5 0\n", "at {new}");
+    }
+    Ok(())
+}
+
+#[test]
+fn a_value_that_is_not_the_interfaces_is_refused(rt: HostRuntime) -> Result<(), Fail> {
+    let alloc = rt.alloc();
+    // what stands in the script, and what is put in its place
+    let cases = [
+        ("interface M::", "interface N::"),
+        ("M::Calc", "M::calc"),
+        ("M::Calc", "M::Calcs"),
+        ("servant add add a b", "servant sum add a b"),
+        ("servant add add a b", "servant add add x b"),
+        ("servant add add a b", "servant add add a c"),
+        ("call 1 add 2 3", "call 1 sum 2 3"),
+        ("call 1 add 2 3", "call 1 add 2147483648 3"),
+        ("call 1 add 2 3", "call 1 add 2 -2147483649"),
+        ("call 1 add 2 3", "call 1 add 99999999999999999999 3"),
+    ];
+    for (old, new) in cases {
+        let script = FIRST.replace(alloc, old, new)?;
+        let (status, text) = ran(alloc, &script, CALC)?;
+        assert_eq!(rt; status, Status::Refused, "at {new}");
+        assert_eq!(rt;
+            text.as_str(),
+            "refused first.plan script 7 0\n",
+            "at {new}"
+        );
+    }
+    Ok(())
+}
+
+#[test]
+fn hosts_and_ports_do_not_show(rt: HostRuntime) -> Result<(), Fail> {
+    let alloc = rt.alloc();
+    let cases = [
+        ("-h 127.0.0.1", "-h node-7.example.org"),
+        ("-h 127.0.0.1", "-h -"),
+        ("-p 9001", "-p 1"),
+        ("-p 9001", "-p 65535"),
+        ("deliver 1\n", "deliver 1"),
+        ("deliver 1\n", "deliver 1\nclose\n"),
+    ];
+    for (old, new) in cases {
+        let script = FIRST.replace(alloc, old, new)?;
+        let (status, text) = ran(alloc, &script, CALC)?;
+        assert_eq!(rt; status, Status::Done, "at {new}");
+        assert_eq!(rt; text.as_str(), REPORT, "at {new}");
+    }
+    Ok(())
+}
+
+#[test]
+fn names_and_numbers_at_their_bounds_are_printed(rt: HostRuntime) -> Result<(), Fail> {
+    let alloc = rt.alloc();
+    let script = "client calc.tars
+interface m::abcdefghijklmnopqrstuvwxyzABCDEF
+object _.0.Z@tcp -h . -p 65535 -t 3600000
+servant Int add Key Key
+call 1 Int -2147483648 2147483647
+close
+call 1 Int 0 -1";
+    let interface =
+        "module m { interface abcdefghijklmnopqrstuvwxyzABCDEF { int Int(int Key, int x); }; };";
+    let report = "call 1 line 1 Int node 1 live id 1 closed
+call 2 line 1 Int node 1 live refused closed
+sent 1 1 call 1 0000002D10012C3C400156055F2E302E5A6603496E747D00000A1280000000227FFFFFFF820036EE80980CA80C
+done calls 2 two-way 2 one-way 0
+";
+    let (status, text) = ran(alloc, script, interface)?;
+    assert_eq!(rt; status, Status::Done);
+    assert_eq!(rt; text.as_str(), report);
+    Ok(())
+}
+
+#[test]
+fn a_sum_that_is_no_int_is_a_code(rt: HostRuntime) -> Result<(), Fail> {
+    let alloc = rt.alloc();
+    let script = FIRST.replace(alloc, "2 3", "2147483647 1")?;
+    let (status, text) = ran(alloc, &script, CALC)?;
+    assert_eq!(rt; status, Status::Done);
+    let (front, got) = text.split_once("got ").ok_or("a packet is got")?;
+    assert!(rt; front.starts_with("call 1 line 1 add node 1 live id 1 code -99\n"));
+    assert_eq!(rt;
+        got,
+        "1 1 used 1 0000001310012C30014C509D6D000C780C8600
+done calls 1 two-way 1 one-way 0
+"
+    );
+    Ok(())
+}
