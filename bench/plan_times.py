@@ -20,7 +20,7 @@ interface M::Calc
 object A.B.C@tcp -h 127.0.0.1 -p 9001 -t 3000
 servant add add a b
 """
-# What stands behind the first, the second, .. call, and so on again; the close is at the half.
+# What stands behind the first, the second, .. call, and so on again; from the half on, a close as well.
 AFTER = ["serve 1\n", "work 1\n", "serve 1\nwork 1\ndeliver 1\n", "deliver 1\n", ""]
 
 
@@ -28,7 +28,7 @@ def script_of(calls: int) -> str:
     parts = [HEADER]
     for k in range(calls):
         parts.append(f"call 1 add {k} {-k}\n" + AFTER[k % len(AFTER)])
-        if k == calls // 2:
+        if k >= calls // 2:
             parts.append("close\n")
     return "".join(parts)
 

@@ -2,7 +2,8 @@
 use Rattle.std.proofs.Common.{◌≡◌, ◌≤◌, ◌<◌, ◌+◌, ℕ, true, false, None, List, [], ◌∷◌, ◌++◌, length, take, drop, map, refl, sym, ap, subst, ◌∙◌, arith, length-append, append_assoc, append-nil}
 use Rattle.std.specs.List.{AllByRecursion}
 use Rattle.std.proofs.lemmas.Bool.{le-leb, lt-leb}
-use Rattle.std.proofs.lemmas.List.{take-append-le, map-append}
+use Rattle.std.proofs.lemmas.List.{length-map, drop-append-le, map-append}
+use Rattle.std.proofs.lemmas.List.Concat.{flat_map-append}
 use Rattle.tars_model.specs.declared.value.Value.{Value}
 use Rattle.session.specs.declared.link_log.SentRow.{SentRow}
 use Rattle.session.specs.declared.loaded.CallSpec.{CallSpec}
@@ -10,11 +11,11 @@ use Rattle.session.specs.declared.loaded.Event.TheVariants.{Call}
 use Rattle.session.specs.declared.pending.Pending.{Pending}
 use Rattle.session.specs.declared.plan.Plan.{Plan}
 use Rattle.session.specs.declared.report.Refusal.TheVariants as refusal
-use Rattle.session.specs.Courses.{WIDTH, Course, Opened, opened, opened_among, with_id, began, not_sent, open_under, live_node, step, sent_frame, answer_frame, joined}
+use Rattle.session.specs.Courses.{WIDTH, Course, Opened, opened, opened_among, with_id, closed_call, began, not_sent, open_under, live_node, step, sent_frame, answer_frame, joined}
 use Rattle.session.specs.Planned.{sent_row, got_rows}
 use Rattle.session.specs.Services.{AreTwoInts}
 use Rattle.session.specs.Tracks.{Tracks, IsOpened, request_frames}
-use Rattle.session.proofs.PlanLemmas.{length-map_frames, drop-append, joined-append}
+use Rattle.session.proofs.Lists.{All-append, front_same}
 
 -- calls that are begun one after another
 pub opened_one_more : (calls : List Pending) (args : List (List Value)) (x : Pending) (a : List Value) → length args ≡ length calls
@@ -27,7 +28,7 @@ opened_one_more (call ∷ calls) (b ∷ args) x a e =
     ∙ sym (append_assoc (with_id call.call b call.id) (opened_among calls args) (with_id x.call a x.id))
 
 pub sent_len : (p : Plan) (c : Course) (t : Tracks p c) → length p.sent.items ≡ length (opened c)
-sent_len p c t = ap length t.sent_is ∙ length-map_frames (sent_row p.service) (opened c)
+sent_len p c t = ap length t.sent_is ∙ length-map (opened c) (sent_row p.service)
 
 -- The three cases of a call.
 
@@ -52,9 +53,9 @@ same_opened c spec x e none =
 one_longer : {A B : Type 0} (xs : List A) (ys : List B) (x : A) (y : B) → length xs ≡ length ys → length (xs ++ x ∷ []) ≡ length (ys ++ y ∷ [])
 one_longer xs ys x y e = simp length-append (omega arith)
 
-refused_tracks : (p q : Plan) (c : Course) (spec : CallSpec) (x : Pending) → Tracks p c → x.id ≡ None → q.calls.items ≡ p.calls.items ++ x ∷ []
+refused_tracks : (p q : Plan) (c : Course) (spec : CallSpec) (x : Pending) → Tracks p c → x.id ≡ None → closed_call x ≡ x → q.calls.items ≡ p.calls.items ++ x ∷ []
     → Tracks (record p { calls = q.calls }) (record c { calls = c.calls ++ x ∷ []; args = c.args ++ spec.args ∷ [] })
-refused_tracks p q c spec x t none calls =
+refused_tracks p q c spec x t none ended calls =
     let e = same_opened c spec x t.args_are none in
     record {
       service = t.service;
@@ -72,6 +73,7 @@ refused_tracks p q c spec x t none calls =
       args_are = one_longer c.args c.calls spec.args x t.args_are;
       sent_is = t.sent_is ∙ ap (λ os. map (sent_row p.service) os) (sym e);
       closed_is = t.closed_is;
+      all_ended = λ closed. map-append closed_call c.calls (x ∷ []) ∙ cc (t.all_ended closed, ended);
       to_node_is = t.to_node_is ∙ ap (λ os. joined (drop t.requests (map (sent_frame p.service) os))) (sym e);
       queue_is = t.queue_is ∙ ap (λ os. drop c.answered (take t.requests (map (sent_frame p.service) os))) (sym e);
       to_caller_is = t.to_caller_is ∙ ap (λ os. joined (drop t.answers (take c.answered (map (answer_frame p.service) os)))) (sym e);
@@ -88,14 +90,14 @@ pub full_tracks : (p q : Plan) (c : Course) (spec : CallSpec) (x : Pending) → 
     → Tracks (record p { calls = q.calls }) (step p.service c (Call spec))
 full_tracks p q c spec x t h is calls =
     begun p (record p { calls = q.calls }) c spec x (began_full c spec (let e = sent_len p c t in omega arith) ∙ sym is)
-    (refused_tracks p q c spec x t (ap (λ (y : Pending). y.id) is) calls)
+    (refused_tracks p q c spec x t (ap (λ (y : Pending). y.id) is) (rw is refl) calls)
 
 pub closed_tracks : (p q : Plan) (c : Course) (spec : CallSpec) (x : Pending) → Tracks p c → length p.sent.items < WIDTH → p.closed ≡ true
     → x ≡ not_sent spec live_node (refusal.Closed 0) → q.calls.items ≡ p.calls.items ++ x ∷ []
     → Tracks (record p { calls = q.calls }) (step p.service c (Call spec))
 closed_tracks p q c spec x t h closed is calls =
     begun p (record p { calls = q.calls }) c spec x (began_closed c spec (let e = sent_len p c t in omega arith) (sym t.closed_is ∙ closed) ∙ sym is)
-    (refused_tracks p q c spec x t (ap (λ (y : Pending). y.id) is) calls)
+    (refused_tracks p q c spec x t (ap (λ (y : Pending). y.id) is) (rw is refl) calls)
 
 -- A call that is opened.
 
@@ -106,43 +108,35 @@ more_opened : (c : Course) (spec : CallSpec) → length c.args ≡ length c.call
     → opened_among (c.calls ++ open_under spec (length (opened c) + 1) ∷ []) (c.args ++ spec.args ∷ []) ≡ opened c ++ one_opened c spec ∷ []
 more_opened c spec e = opened_one_more c.calls c.args (open_under spec (length (opened c) + 1)) spec.args e
 
-All-one_more : {A : Type 0} (P : A → Type 0) (xs : List A) (x : A) → AllByRecursion P xs → P x → AllByRecursion P (xs ++ x ∷ [])
-All-one_more P [] x h own = (own, tt)
-All-one_more P (y ∷ xs) x h own = (h.0, All-one_more P xs x h.1 own)
-
-first_same : {A B : Type 0} (f : A → B) (n : ℕ) (xs : List A) (x : A) → n ≤ length xs → take n (map f (xs ++ x ∷ [])) ≡ take n (map f xs)
-first_same f n xs x h =
-    ap (λ ys. take n ys) (map-append f xs (x ∷ [])) ∙ take-append-le n (map f xs) (f x ∷ []) (let e = length-map_frames f xs in omega arith)
-
 one_more_sent : {A : Type 0} (f : A → List ℕ) (n : ℕ) (xs : List A) (x : A) → n ≤ length xs
     → joined (drop n (map f xs)) ++ f x ≡ joined (drop n (map f (xs ++ x ∷ [])))
 one_more_sent f n xs x h =
     sym (ap (λ ys. joined (drop n ys)) (map-append f xs (x ∷ []))
-    ∙ ap joined (drop-append n (map f xs) (f x ∷ []) (let e = length-map_frames f xs in omega arith))
-    ∙ joined-append (drop n (map f xs)) (f x ∷ [])
+    ∙ ap joined (drop-append-le n (map f xs) (f x ∷ []) (let e = length-map xs f in omega arith))
+    ∙ flat_map-append (λ frame. frame) (drop n (map f xs)) (f x ∷ [])
     ∙ ap (λ ys. joined (drop n (map f xs)) ++ ys) (append-nil (f x)))
 
-open_tracks : (p q : Plan) (c : Course) (spec : CallSpec) (t : Tracks p c) (row : SentRow) → length (opened c) < WIDTH → AreTwoInts spec.args
+open_tracks : (p q : Plan) (c : Course) (spec : CallSpec) (t : Tracks p c) (row : SentRow) → length (opened c) < WIDTH → c.closed ≡ false → AreTwoInts spec.args
     → row ≡ sent_row p.service (one_opened c spec)
     → q.calls.items ≡ p.calls.items ++ open_under spec (length (opened c) + 1) ∷ []
     → q.sent.items ≡ p.sent.items ++ row ∷ []
     → q.to_node.items ≡ p.to_node.items ++ row.frame
     → Tracks (record p { calls = q.calls; sent = q.sent; to_node = q.to_node })
     (record c { calls = c.calls ++ open_under spec (length (opened c) + 1) ∷ []; args = c.args ++ spec.args ∷ [] })
-open_tracks p q c spec t row h ints is calls sent to_node =
+open_tracks p q c spec t row h not_closed ints is calls sent to_node =
     let e = more_opened c spec t.args_are in
     let o = one_opened c spec in
     record {
       service = t.service;
-      each = subst (λ os. AllByRecursion IsOpened os) (sym e) (All-one_more IsOpened (opened c) o t.each (record { ints = ints; small = omega arith }));
+      each = subst (λ os. AllByRecursion IsOpened os) (sym e) (All-append IsOpened (opened c) (o ∷ []) t.each (record { ints = ints; small = omega arith }, tt));
       few = subst (λ (os : List Opened). length os ≤ WIDTH) (sym e) (simp length-append (omega arith));
       requests = t.requests;
       answers = t.answers;
       requests_within = subst (λ (os : List Opened). t.requests ≤ length os) (sym e) (simp length-append (omega (arith, t.requests_within)));
       answered_within = t.answered_within;
       answers_within = t.answers_within;
-      served_is = t.served_is ∙ sym (ap (λ os. length (joined (take t.requests (map (sent_frame p.service) os)))) e ∙ ap (λ fs. length (joined fs)) (first_same (sent_frame p.service) t.requests (opened c) o t.requests_within));
-      delivered_is = t.delivered_is ∙ sym (ap (λ os. length (joined (take t.answers (map (answer_frame p.service) os)))) e ∙ ap (λ fs. length (joined fs)) (first_same (answer_frame p.service) t.answers (opened c) o (omega (arith, t.requests_within, t.answered_within, t.answers_within))));
+      served_is = t.served_is ∙ sym (ap (λ os. length (joined (take t.requests (map (sent_frame p.service) os)))) e ∙ ap (λ fs. length (joined fs)) (front_same (sent_frame p.service) t.requests (opened c) (o ∷ []) t.requests_within));
+      delivered_is = t.delivered_is ∙ sym (ap (λ os. length (joined (take t.answers (map (answer_frame p.service) os)))) e ∙ ap (λ fs. length (joined fs)) (front_same (answer_frame p.service) t.answers (opened c) (o ∷ []) (omega (arith, t.requests_within, t.answered_within, t.answers_within))));
       fates_are = t.fates_are;
       calls_are = calls ∙ ap (λ cs. cs ++ open_under spec (length (opened c) + 1) ∷ []) t.calls_are;
       args_are = one_longer c.args c.calls spec.args (open_under spec (length (opened c) + 1)) t.args_are;
@@ -150,13 +144,14 @@ open_tracks p q c spec t row h ints is calls sent to_node =
           sent ∙ ap (λ rs. rs ++ row ∷ []) t.sent_is ∙ ap (λ r. map (sent_row p.service) (opened c) ++ r ∷ []) is
           ∙ sym (map-append (sent_row p.service) (opened c) (o ∷ [])) ∙ ap (λ os. map (sent_row p.service) os) (sym e);
       closed_is = t.closed_is;
+      all_ended = λ closed. absurd cc;
       to_node_is =
           to_node ∙ ap (λ bs. bs ++ row.frame) t.to_node_is ∙ ap (λ (r : SentRow). joined (drop t.requests (request_frames p.service c)) ++ r.frame) is
           ∙ one_more_sent (sent_frame p.service) t.requests (opened c) o t.requests_within
           ∙ ap (λ os. joined (drop t.requests (map (sent_frame p.service) os))) (sym e);
-      queue_is = t.queue_is ∙ sym (ap (λ os. drop c.answered (take t.requests (map (sent_frame p.service) os))) e ∙ ap (λ fs. drop c.answered fs) (first_same (sent_frame p.service) t.requests (opened c) o t.requests_within));
-      to_caller_is = t.to_caller_is ∙ sym (ap (λ os. joined (drop t.answers (take c.answered (map (answer_frame p.service) os)))) e ∙ ap (λ fs. joined (drop t.answers fs)) (first_same (answer_frame p.service) c.answered (opened c) o (omega (arith, t.requests_within, t.answered_within))));
-      got_is = t.got_is ∙ sym (ap (λ os. got_rows (take t.answers (map (answer_frame p.service) os)) c.fates) e ∙ ap (λ fs. got_rows fs c.fates) (first_same (answer_frame p.service) t.answers (opened c) o (omega (arith, t.requests_within, t.answered_within, t.answers_within))));
+      queue_is = t.queue_is ∙ sym (ap (λ os. drop c.answered (take t.requests (map (sent_frame p.service) os))) e ∙ ap (λ fs. drop c.answered fs) (front_same (sent_frame p.service) t.requests (opened c) (o ∷ []) t.requests_within));
+      to_caller_is = t.to_caller_is ∙ sym (ap (λ os. joined (drop t.answers (take c.answered (map (answer_frame p.service) os)))) e ∙ ap (λ fs. joined (drop t.answers fs)) (front_same (answer_frame p.service) c.answered (opened c) (o ∷ []) (omega (arith, t.requests_within, t.answered_within))));
+      got_is = t.got_is ∙ sym (ap (λ os. got_rows (take t.answers (map (answer_frame p.service) os)) c.fates) e ∙ ap (λ fs. got_rows fs c.fates) (front_same (answer_frame p.service) t.answers (opened c) (o ∷ []) (omega (arith, t.requests_within, t.answered_within, t.answers_within))));
     }
 
 -- a call that is opened under the number of those opened before it, and one more
@@ -174,7 +169,7 @@ opened_tracks p q c spec t row call id h not_closed ints id_is row_is call_is ca
     let room : length (opened c) < WIDTH = omega arith in
     begun p (record p { calls = q.calls; sent = q.sent; to_node = q.to_node }) c spec (open_under spec (length (opened c) + 1))
     (began_open c spec room (sym t.closed_is ∙ not_closed))
-    (open_tracks p q c spec t row room ints
+    (open_tracks p q c spec t row room (sym t.closed_is ∙ not_closed) ints
     (row_is ∙ ap (λ m. sent_row p.service (record { call = spec.call; args = spec.args; id = m })) n)
     (calls ∙ ap (λ x. p.calls.items ++ x ∷ []) (call_is ∙ ap (λ m. open_under spec m) n))
     sent to_node)

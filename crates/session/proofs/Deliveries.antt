@@ -1,5 +1,5 @@
 -- Taking in answers changes no call but by its end.
-use Rattle.std.proofs.Common.{◌≡◌, ◌+◌, ℕ, suc, Bool, true, false, cond, List, [], ◌∷◌, ◌++◌, Some, length, map, refl, ap, ◌∙◌, arith, length-append, append_assoc, append-nil}
+use Rattle.std.proofs.Common.{◌≡◌, ◌+◌, ℕ, suc, Bool, true, false, cond, Option, None, Some, List, [], ◌∷◌, ◌++◌, length, map, refl, ap, ◌∙◌, arith, length-append, append_assoc, append-nil}
 use Rattle.std.specs.Option.{is_none}
 use Rattle.session.specs.declared.report.End.TheVariants.{Closed}
 use Rattle.std.specs.List.{fold}
@@ -57,6 +57,27 @@ opened-closed (call ∷ calls) (x ∷ args) =
     ap (λ os. os ++ opened_among (map closed_call calls) args) (same_opened (closed_call call) call x (closed_as call (is_none call.end)))
     ∙ ap (λ os. with_id call.call x call.id ++ os) (opened-closed calls args)
 
+-- Behind a close no call is open: a reply settles none, and another close ends none.
+settle-ended : (id : ℕ) (end : End) (calls : List Pending) → map closed_call calls ≡ calls → map closed_call (settle id end calls) ≡ settle id end calls
+settle-ended id end [] e = refl
+settle-ended id end (call ∷ calls) e = go (is_open_under id call) (settle-ended id end calls cc)
+  where
+    go : (b : Bool) → map closed_call (settle id end calls) ≡ settle id end calls
+        → map closed_call (cond b (record call { end = Some end } ∷ calls) (call ∷ settle id end calls)) ≡ cond b (record call { end = Some end } ∷ calls) (call ∷ settle id end calls)
+    go true rest = ap (λ cs. record call { end = Some end } ∷ cs) cc
+    go false rest = cc
+
+closed_twice : (call : Pending) → closed_call (closed_call call) ≡ closed_call call
+closed_twice call = go call.end
+  where
+    go : (end : Option End) → closed_call (closed_call (record call { end = end })) ≡ closed_call (record call { end = end })
+    go None = refl
+    go (Some end) = refl
+
+pub all_closed_twice : (calls : List Pending) → map closed_call (map closed_call calls) ≡ map closed_call calls
+all_closed_twice [] = refl
+all_closed_twice (call ∷ calls) = cc (closed_twice call, all_closed_twice calls)
+
 length-got_rows : (ps : List (List ℕ)) (fs : List GotFate) → length ps ≡ length fs → length (got_rows ps fs) ≡ length fs
 length-got_rows [] [] e = refl
 length-got_rows [] (f ∷ fs) e = absurd (omega arith)
@@ -79,6 +100,7 @@ pub record Comes (s : Service) (c : Course) (ps : List (List ℕ)) (os : List Op
   pub opened_is : opened end ≡ opened c
   pub fates_len : length end.fates ≡ length c.fates + length os
   pub calls_len : length end.calls ≡ length c.calls
+  pub ended : map closed_call c.calls ≡ c.calls → map closed_call end.calls ≡ end.calls
 
 -- after the first
 one_came : (s : Service) (c : Course) (ps : List (List ℕ)) (o : Opened) → length ps ≡ length c.fates
@@ -103,6 +125,26 @@ got_rest : (s : Service) (c end : Course) (o : Opened) → end ≡ record (got s
 unfolding got
 got_rest s c end o h = h
 
+got_ended : (s : Service) (c : Course) (o : Opened) → map closed_call c.calls ≡ c.calls → map closed_call (got s c o).calls ≡ (got s c o).calls
+unfolding got
+got_ended s c o h = settle-ended o.id (outcome (length c.fates + 1) (reply_to s o.args)) c.calls h
+
+-- and the others
+others_came : (s : Service) (c : Course) (ps : List (List ℕ)) (o : Opened) (os : List Opened) → length ps ≡ length c.fates
+    → Comes s (got s c o) (ps ++ answer_frame s o ∷ []) os → Comes s c ps (o ∷ os)
+others_came s c ps o os e r = record {
+  end = r.end;
+  end_is = r.end_is;
+  desk =
+      ap (λ (d : Desk). fold (come s) d os) (one_came s c ps o e) ∙ r.desk
+      ∙ ap (λ qs. record { calls = r.end.calls; got = got_rows qs r.end.fates }) (append_assoc ps (answer_frame s o ∷ []) (map (answer_frame s) os));
+  rest = got_rest s c r.end o r.rest;
+  opened_is = r.opened_is ∙ got_opened s c o;
+  fates_len = r.fates_len ∙ (let f = got_fates s c o in omega arith);
+  calls_len = r.calls_len ∙ got_calls s c o;
+  ended = λ h. r.ended (got_ended s c o h);
+}
+
 pub comes : (s : Service) (c : Course) (ps : List (List ℕ)) (os : List Opened) → length ps ≡ length c.fates → Comes s c ps os
 comes s c ps [] e = record {
   end = c;
@@ -112,18 +154,8 @@ comes s c ps [] e = record {
   opened_is = refl;
   fates_len = omega arith;
   calls_len = refl;
+  ended = λ h. h;
 }
 comes s c ps (o ∷ os) e =
-    let more : length (ps ++ answer_frame s o ∷ []) ≡ length (got s c o).fates = rw (got_fates s c o) (simp length-append (omega arith)) in
-    let r = comes s (got s c o) (ps ++ answer_frame s o ∷ []) os more in
-    record {
-      end = r.end;
-      end_is = r.end_is;
-      desk =
-          ap (λ (d : Desk). fold (come s) d os) (one_came s c ps o e) ∙ r.desk
-          ∙ ap (λ qs. record { calls = r.end.calls; got = got_rows qs r.end.fates }) (append_assoc ps (answer_frame s o ∷ []) (map (answer_frame s) os));
-      rest = got_rest s c r.end o r.rest;
-      opened_is = r.opened_is ∙ got_opened s c o;
-      fates_len = r.fates_len ∙ (let f = got_fates s c o in omega arith);
-      calls_len = r.calls_len ∙ got_calls s c o;
-    }
+    others_came s c ps o os e
+    (comes s (got s c o) (ps ++ answer_frame s o ∷ []) os (rw (got_fates s c o) (simp length-append (omega arith))))

@@ -40,6 +40,7 @@ later p n c t = record {
   args_are = t.args_are;
   sent_is = t.sent_is;
   closed_is = t.closed_is;
+  all_ended = t.all_ended;
   to_node_is = t.to_node_is;
   queue_is = t.queue_is;
   to_caller_is = t.to_caller_is;

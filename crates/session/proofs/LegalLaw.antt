@@ -1,7 +1,7 @@
 -- The report of a loaded script is legal.
 use Rattle.std.proofs.Common.{◌≡◌, ◌<◌, ◌≤◌, ◌↔◌, ◌+◌, ℕ, zero, suc, Bool, true, false, Some, List, [], ◌∷◌, ◌++◌, None, length, take, map, slice_get, refl, sym, ap, subst, ◌∙◌, arith}
 use Rattle.std.specs.List.{AllByRecursion, filter_map}
-use Rattle.std.proofs.lemmas.List.{take-take}
+use Rattle.std.proofs.lemmas.List.{take-map, take-take}
 use Rattle.wire_words.specs.Packets.{packets_of}
 use Rattle.session.specs.declared.link_log.GotFate.{GotFate}
 use Rattle.session.specs.declared.link_log.GotRow.{GotRow}
@@ -21,11 +21,13 @@ use Rattle.session.specs.Tracks.{IsOpened}
 use Rattle.session.specs.Legal.{Scripted, scripted, scripted_after, sent_before, IsUsedPacket, IsUsedId, IsReplied, IsRefusal, pick_of, packet_of, picked_of, IsSentAs, IsLegal}
 use Rattle.session.proofs.FramesArePackets.{answers_are_packets}
 use Rattle.session.proofs.LoadedLemmas.{service_sound}
-use Rattle.session.proofs.PlanLemmas.{All-take, first_packets, map-take}
+use Rattle.session.proofs.Lists.{All-take}
+use Rattle.session.proofs.PlanLemmas.{first_packets}
 use Rattle.session.proofs.LegalCourses.{opened_are}
 use Rattle.session.proofs.LegalSteps.{IsSoundCourse, run_sound}
-use Rattle.session.proofs.LegalRows.{IsAt, at, headings, scripted_calls, ids_rise, calls_sent, full_exactly, late_exactly, unsent_exactly, picked_exactly, rule_exactly, sent_exactly, picks_same, reports_same, some_same}
+use Rattle.session.proofs.LegalRows.{IsAt, at, headings, scripted_calls, ids_rise, calls_sent, full_exactly, late_exactly, unsent_exactly, picked_exactly, rule_exactly, sent_exactly, picks_same, reports_same}
 use Rattle.session.proofs.LegalReplies.{all_got_rows, used_named, closed_exactly, replied_as}
+use Rattle.session.proofs.Readers.{some_is}
 
 -- each call is of the one function
 calls_first : (closed : Bool) (n : ℕ) (es : List EventText) → AllByRecursion (λ (x : Scripted). x.spec.func ≡ 0) (scripted_after closed (events_from n es))
@@ -42,7 +44,7 @@ first_function l h =
 
 All-at : {A : Type 0} (P : A → Type 0) (xs : List A) (k : ℕ) (x : A) → AllByRecursion P xs → slice_get xs k ≡ Some x → P x
 All-at P [] k x h e = absurd (cc)
-All-at P (y ∷ xs) zero x h e = subst P (sym (some_same y x e)) h.0
+All-at P (y ∷ xs) zero x h e = subst P (some_is y x e) h.0
 All-at P (y ∷ xs) (suc k) x h e = All-at P xs k x h.1 e
 
 -- the caller has read whole packets
@@ -52,7 +54,7 @@ got_whole s xs c h t =
     let n = length c.fates in
     let frames = map (answer_frame s) (opened c) in
     let read = map (answer_frame s) (take c.answered (opened c)) in
-    let front : take n read ≡ take n frames = ap (λ fs. take n fs) (map-take (answer_frame s) c.answered (opened c)) ∙ take-take n c.answered frames t.fates_within in
+    let front : take n read ≡ take n frames = ap (λ fs. take n fs) (sym (take-map (answer_frame s) c.answered (opened c))) ∙ take-take n c.answered frames t.fates_within in
     let bytes : c.delivered ≡ length (joined (take n read)) = t.delivered_is ∙ ap (λ fs. length (joined fs)) (sym front) in
     let each = answers_are_packets s (take c.answered (opened c)) h (All-take IsOpened c.answered (opened c) (opened_are t.calls t.ints)) in
     ap (λ ps. got_rows ps c.fates) (ap (λ m. packets_of (take m (joined read))) bytes ∙ first_packets n read each ∙ front)
@@ -71,7 +73,7 @@ late_at : {s : Service} {xs : List Scripted} {k : ℕ} {calls : List Pending} {o
     → (row.end ≡ Refused (refusal.Closed 0)) ↔ ((x.closed ≡ true) × (sent_before (map row_of calls) k < WIDTH))
 late_at {k = k} {calls = calls} x e p =
     let count : p.m ≡ sent_before (map row_of calls) k = (let c = p.count in omega arith) in
-    let same : p.x ≡ x = sym (some_same p.x x (sym p.x_at ∙ e)) in
+    let same : p.x ≡ x = some_is p.x x (sym p.x_at ∙ e) in
     subst (λ (r : Row). (r.end ≡ Refused (refusal.Closed 0)) ↔ ((x.closed ≡ true) × (sent_before (map row_of calls) k < WIDTH))) (sym p.row_is)
     (subst (λ (y : Scripted). ((row_of p.call).end ≡ Refused (refusal.Closed 0)) ↔ ((y.closed ≡ true) × (sent_before (map row_of calls) k < WIDTH))) same
     (subst (λ (m : ℕ). ((row_of p.call).end ≡ Refused (refusal.Closed 0)) ↔ ((p.x.closed ≡ true) × (m < WIDTH))) count (late_exactly p.is)))
@@ -84,7 +86,7 @@ on_row P p h = subst P (sym p.row_is) h
 -- a place has one scripted call
 one_call : {s : Service} {xs : List Scripted} {n k : ℕ} {calls : List Pending} {os : List Opened} {all : List GotFate} {row : Row}
     (x : Scripted) (p : IsAt s xs n k calls os all row) → slice_get xs k ≡ Some x → p.x ≡ x
-one_call x p e = sym (some_same p.x x (sym p.x_at ∙ e))
+one_call x p e = some_is p.x x (sym p.x_at ∙ e)
 
 legal_course : (l : Loaded) (c : Course) → IsLoaded l → IsSoundCourse (service_of l) (scripted l.events) c → IsLegal l (report_of (service_of l) c)
 legal_course l c h t =

@@ -16,7 +16,8 @@ use Rattle.session.specs.Services.{Reply, sum, code, UNKNOWN, reply_to, response
 use Rattle.session.specs.RpcPackets.{response_frame}
 use Rattle.session.specs.Legal.{Scripted, IsUsedPacket, IsUsedId, IsReplied, packet_of}
 use Rattle.session.proofs.LegalCourses.{IsSound, none, full, late, waits, stopped, missed, replied, ended, opened_as}
-use Rattle.session.proofs.LegalRows.{IsCall, is_full, is_late, is_open, is_stopped, is_missed, is_replied, some_same, not_closed, names_packet}
+use Rattle.session.proofs.LegalRows.{IsCall, is_full, is_late, is_open, is_stopped, is_missed, is_replied, not_closed, names_packet}
+use Rattle.session.proofs.Readers.{some_is}
 
 -- the rows of what was got
 abbrev pub all_got_rows : Service → List Opened → List GotFate → List GotRow
@@ -26,13 +27,13 @@ row_got : (s : Service) (fates : List GotFate) (os : List Opened) (k : ℕ) (f :
     → slice_get (all_got_rows s os fates) k ≡ Some (record { packet = answer_frame s o; fate = f })
 row_got s [] os k f o ef eo = absurd (cc)
 row_got s (g ∷ fates) [] k f o ef eo = absurd (cc)
-row_got s (g ∷ fates) (q ∷ os) zero f o ef eo = rw (some_same g f ef, some_same q o eo) refl
+row_got s (g ∷ fates) (q ∷ os) zero f o ef eo = rw (sym (some_is g f ef), sym (some_is q o eo)) refl
 row_got s (g ∷ fates) (q ∷ os) (suc k) f o ef eo = row_got s fates os k f o ef eo
 
 fate_got : (ps : List (List ℕ)) (fates : List GotFate) (k : ℕ) (row : GotRow) → slice_get (got_rows ps fates) k ≡ Some row → slice_get fates k ≡ Some row.fate
 fate_got [] fates k row e = absurd (cc)
 fate_got (p ∷ ps) [] k row e = absurd (cc)
-fate_got (p ∷ ps) (f ∷ fates) zero row e = ap (λ (r : GotRow). Some r.fate) (sym (some_same (record { packet = p; fate = f }) row e))
+fate_got (p ∷ ps) (f ∷ fates) zero row e = ap (λ (r : GotRow). Some r.fate) (some_is (record { packet = p; fate = f }) row e)
 fate_got (p ∷ ps) (f ∷ fates) (suc k) row e = fate_got ps fates k row e
 
 -- The row that a packet is named by.
@@ -120,7 +121,7 @@ closed_exactly {s = s} {fates = fates} os n x call h is = go (slice_get fates n)
     go fate own call (is_missed w c f o) ef eo = (λ e. (record { 0 = n + 1 }, refl, left fate ef (λ u. cc)), λ g. refl)
     go fate own call (is_replied w c f o) ef eo = (
       λ e. absurd (not_closed (n + 1) (reply_to s x.spec.args) e),
-      λ g. absurd (g.2 (subst (λ (id : CallId). IsUsedId (all_got_rows s os fates) id) (some_same g.0 (record { 0 = n + 1 }) (sym g.1))
+      λ g. absurd (g.2 (subst (λ (id : CallId). IsUsedId (all_got_rows s os fates) id) (sym (some_is g.0 (record { 0 = n + 1 }) (sym g.1)))
           (n + 1, answer_frame s (opened_as x (n + 1)), (n, refl, row_got s fates os n (Used (record { 0 = n + 1 })) (opened_as x (n + 1)) (ef ∙ f) (eo ∙ o))))),
     )
 

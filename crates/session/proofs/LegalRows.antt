@@ -22,6 +22,7 @@ use Rattle.session.specs.Planned.{row_of, sent_row, picked_step, reported_step}
 use Rattle.session.specs.Services.{Reply, sum, code, reply_to, service_of}
 use Rattle.session.specs.Legal.{Scripted, scripted_after, call_of, heading_of, heading_of_call, was_sent, sent_before, ids_of, RiseAbove, IsRefusal, pick_of, packet_of, picked_of, reported_of, IsSentAs}
 use Rattle.session.proofs.LegalCourses.{IsSound, none, full, late, waits, stopped, missed, replied, ended, opened_as}
+use Rattle.session.proofs.Readers.{some_is}
 
 -- Headings, ids and frames, in order.
 
@@ -93,9 +94,6 @@ count_from a (row ∷ rows) =
     let p = count_from (a + cond (was_sent row) 1 0) rows in
     let q = count_from (0 + cond (was_sent row) 1 0) rows in omega arith
 
-pub some_same : {A : Type 0} (x y : A) → Some x ≡ Some y → y ≡ x
-some_same x y e = cc
-
 drop_more : {A : Type 0} (n : ℕ) (xs : List A) (y : A) (more : List A) → drop n xs ≡ y ∷ more → (drop (suc n) xs ≡ more) × (slice_get xs n ≡ Some y)
 drop_more zero [] y more e = absurd (cc)
 drop_more zero (x ∷ xs) y more e = (cc, cc)
@@ -140,7 +138,7 @@ here {n = n} row x call e is = record {
   x = x;
   call = call;
   count = omega arith;
-  row_is = some_same (row_of call) row e;
+  row_is = sym (some_is (row_of call) row e);
   x_at = refl;
   is = is;
 }
@@ -254,14 +252,14 @@ rule_exactly {s = s} {n = n} {x = x} packet (is_replied h c f o) e =
 
 map_at : {A B : Type 0} (f : A → B) (xs : List A) (k : ℕ) (x : A) → slice_get xs k ≡ Some x → slice_get (map f xs) k ≡ Some (f x)
 map_at f [] k x e = absurd (cc)
-map_at f (y ∷ xs) zero x e = ap (λ z. Some (f z)) (sym (some_same y x e))
+map_at f (y ∷ xs) zero x e = ap (λ z. Some (f z)) (some_is y x e)
 map_at f (y ∷ xs) (suc k) x e = map_at f xs k x e
 
 sent_as : (l : Loaded) (os : List Opened) (n : ℕ) (x : Scripted) (id : CallId) → x.spec.func ≡ 0 → Some (record { 0 = n + 1 }) ≡ Some id
     → slice_get os n ≡ Some (opened_as x (n + 1)) → IsSentAs l (map (sent_row (service_of l)) os) x.spec id
 unfolding service_of
 sent_as l os n x id first e own =
-    rw (some_same (record { 0 = n + 1 }) id e) (n, refl, rw first (map_at (sent_row (service_of l)) os n (opened_as x (n + 1)) own))
+    rw (sym (some_is (record { 0 = n + 1 }) id e)) (n, refl, rw first (map_at (sent_row (service_of l)) os n (opened_as x (n + 1)) own))
 
 pub sent_exactly : (l : Loaded) (os : List Opened) (n : ℕ) (x : Scripted) (id : CallId) {fate : Option GotFate} {call : Pending} → x.spec.func ≡ 0
     → IsCall (service_of l) n x fate (slice_get os n) call → (row_of call).id ≡ Some id → IsSentAs l (map (sent_row (service_of l)) os) x.spec id

@@ -3,7 +3,7 @@ use Rattle.std.proofs.Common.{◌≡◌, ◌≤◌, ◌+◌, ◌-◌, ℕ, zero,
 use Rattle.std.specs.Prelude.{nat_lt, nat_le}
 use Rattle.std.specs.List.{AllByRecursion}
 use Rattle.std.proofs.lemmas.Bool.{ltb-true, leb-true, leb-false}
-use Rattle.std.proofs.lemmas.List.{take-append-le, map-append, length-take-le}
+use Rattle.std.proofs.lemmas.List.{length-map, take-map, length-take-le}
 use Rattle.wire_words.specs.Packets.{packets_of}
 use Rattle.session.specs.declared.link_log.GotFate.{GotFate}
 use Rattle.session.specs.declared.loaded.CallSpec.{CallSpec}
@@ -19,7 +19,8 @@ use Rattle.session.specs.Legal.{Scripted, scripted, scripted_after}
 use Rattle.session.proofs.Deliveries.{Comes, comes, got_fates, got_opened, opened-closed}
 use Rattle.session.proofs.FramesArePackets.{requests_are_packets}
 use Rattle.session.proofs.LoadedLemmas.{service_sound, loaded_events}
-use Rattle.session.proofs.PlanLemmas.{length-map_frames, all_taken, first_packets, taken_len, map-take}
+use Rattle.session.proofs.Lists.{All-append, all_taken, front_same, taken_len}
+use Rattle.session.proofs.PlanLemmas.{first_packets}
 use Rattle.session.proofs.LegalCourses.{IsSound, none, full, late, waits, closes, one_more, opened_more, settles, opened_are}
 
 -- Calls go with their ends and packets, and bytes were read in whole frames.
@@ -46,14 +47,6 @@ start_sound s = record {
 }
 
 -- A call.
-
-front_same : {A B : Type 0} (f : A → B) (n : ℕ) (xs ys : List A) → n ≤ length xs → take n (map f (xs ++ ys)) ≡ take n (map f xs)
-front_same f n xs ys h =
-    ap (λ zs. take n zs) (map-append f xs ys) ∙ take-append-le n (map f xs) (map f ys) (let e = length-map_frames f xs in omega arith)
-
-All-append : {A : Type 0} (P : A → Type 0) (xs ys : List A) → AllByRecursion P xs → AllByRecursion P ys → AllByRecursion P (xs ++ ys)
-All-append P [] ys h own = own
-All-append P (x ∷ xs) ys h own = (h.0, All-append P xs ys h.1 own)
 
 begun_as : (s : Service) (c : Course) (spec : CallSpec)
     → IsSound s (length (opened c)) (record { spec = spec; closed = c.closed } ∷ []) (began c spec ∷ []) (spec.args ∷ []) []
@@ -162,7 +155,7 @@ delivered : (s : Service) (xs : List Scripted) (c : Course) → IsSoundCourse s 
     → IsSoundCourse s xs (step s c Deliver) × ((step s c Deliver).closed ≡ c.closed)
 delivered s xs c t =
     let os = drop (length c.fates) (take c.answered (opened c)) in
-    let r : Comes s c (map (λ (f : GotFate). []) c.fates) os = comes s c (map (λ (f : GotFate). []) c.fates) os (length-map_frames (λ (f : GotFate). []) c.fates) in
+    let r : Comes s c (map (λ (f : GotFate). []) c.fates) os = comes s c (map (λ (f : GotFate). []) c.fates) os (length-map c.fates (λ (f : GotFate). [])) in
     let within : c.answered ≤ length (opened c) = omega (arith, t.requests_within, t.answered_within) in
     let came : length os ≡ length (take c.answered (opened c)) - length c.fates = length-drop (length c.fates) (take c.answered (opened c)) in
     let front : length (take c.answered (opened c)) ≡ c.answered = length-take-le c.answered (opened c) within in
@@ -184,7 +177,7 @@ delivered s xs c t =
             answered_within = rw answered t.answered_within;
             fates_within = omega arith;
             served_is = wait;
-            delivered_is = rw (same, fates) (ap (λ fs. length (joined fs)) (map-take (answer_frame s) c.answered (opened c)));
+            delivered_is = rw (same, fates) (ap (λ fs. length (joined fs)) (sym (take-map (answer_frame s) c.answered (opened c))));
           },
           closed,
         )

@@ -1,7 +1,7 @@
 pub mod PacketFits
 pub mod PacketLengths
 pub mod Framed
-pub mod SameHead
+pub mod Lists
 pub mod ServiceLemmas
 pub mod PlanLemmas
 pub mod FramesArePackets

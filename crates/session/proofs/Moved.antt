@@ -1,8 +1,8 @@
 -- Events of the caller's end leave what was sent, and what the node has read and answered.
-use Rattle.std.proofs.Common.{◌≡◌, ◌≤◌, ℕ, List, length, take, drop, map, sym, ap, subst, ◌∙◌}
+use Rattle.std.proofs.Common.{◌≡◌, ◌≤◌, ℕ, true, List, length, take, drop, map, sym, ap, subst, ◌∙◌}
 use Rattle.std.specs.List.{AllByRecursion}
 use Rattle.session.specs.declared.plan.Plan.{Plan}
-use Rattle.session.specs.Courses.{Course, Opened, WIDTH, opened, sent_frame, answer_frame, joined}
+use Rattle.session.specs.Courses.{Course, Opened, WIDTH, closed_call, opened, sent_frame, answer_frame, joined}
 use Rattle.session.specs.Planned.{got_rows, sent_row}
 use Rattle.session.specs.Tracks.{Tracks, IsOpened, answer_frames}
 
@@ -17,6 +17,7 @@ pub record IsMoved (p q : Plan) (c end : Course) (answers : ℕ) : Type 0 where
   pub calls_are : q.calls.items ≡ end.calls
   pub args_are : length end.args ≡ length end.calls
   pub closed_is : q.closed ≡ end.closed
+  pub all_ended : end.closed ≡ true → map closed_call end.calls ≡ end.calls
   pub to_caller_is : q.to_caller.items ≡ joined (drop answers (take c.answered (answer_frames p.service c)))
   pub got_is : q.got.items ≡ got_rows (take answers (answer_frames p.service c)) end.fates
 
@@ -41,6 +42,7 @@ moved p q c end answers t m =
       args_are = m.args_are;
       sent_is = t.sent_is ∙ ap (λ os. map (sent_row s) os) back;
       closed_is = m.closed_is;
+      all_ended = m.all_ended;
       to_node_is = t.to_node_is ∙ ap (λ os. joined (drop t.requests (map (sent_frame s) os))) back;
       queue_is =
           t.queue_is ∙ ap (λ n. drop n (take t.requests (map (sent_frame s) (opened c)))) (sym m.answered_is)

@@ -14,7 +14,8 @@ use Rattle.session.specs.Courses.{NODE, Course, opened, received, answer_frame, 
 use Rattle.session.specs.Planned.{row_of, picked_step, reported_step, got_rows, link_log, report_of}
 use Rattle.session.specs.Tracks.{Tracks, IsOpened, answer_frames}
 use Rattle.session.proofs.FramesArePackets.{answers_are_packets}
-use Rattle.session.proofs.PlanLemmas.{All-take, first_packets}
+use Rattle.session.proofs.Lists.{All-take}
+use Rattle.session.proofs.PlanLemmas.{first_packets}
 
 -- the first of some are the first of all
 kept : {A B : Type 0} (f : A → B) (n m : ℕ) (xs : List A) → n ≤ m → take n (map f (take m xs)) ≡ take n (map f xs)

@@ -1,5 +1,5 @@
 -- The session that a script and its interface file say: it is made exactly where the two agree.
-use Rattle.std.proofs.Common.{◌≡◌, ◌<◌, ◌^◌, ℕ, ◌+◌, ℤ, pos, negsuc, Bool, true, false, cond, ◌&&◌, List, [], ◌∷◌, map, Option, Some, None, refl, sym, ◌∙◌, arith, inl, inr}
+use Rattle.std.proofs.Common.{◌≡◌, ◌<◌, ◌^◌, ℕ, ◌+◌, ℤ, pos, negsuc, Bool, true, false, ◌&&◌, List, [], ◌∷◌, map, Option, Some, None, refl, sym, ◌∙◌, arith, inl, inr}
 use Rattle.std.specs.Prelude.{MatchOption, Result, Ok, Err, IfOk}
 use Rattle.std.specs.List.{AllByRecursion}
 use Rattle.std.specs.Str.{bytes_eq}
@@ -25,7 +25,7 @@ use Rattle.session.specs.SessionSteps.{place_in, rule_in, call_with, event_in, n
 use Rattle.session.specs.Sessions.{IsInt, func_of_two, schema_of_one}
 use Rattle.session.specs.Words.{number_of}
 use Rattle.std.proofs.lemmas.Int.{ints}
-use Rattle.session.proofs.Readers.{bind_some, some_is}
+use Rattle.session.proofs.Readers.{bind_some, some_is, chosen}
 
 -- ---- places
 
@@ -191,14 +191,10 @@ same_session : (i : InterfaceText) (r : ScriptStruct) (s : ScriptText) (rule : R
 unfolding object_in
 same_session i r s rule events reads rule_is events_are = rw (rule_is, events_are, reads.id, reads.host, reads.port, reads.timeout) refl
 
-when_true : {A : Type 0} (b : Bool) (o : Option A) (x : A) → cond b o None ≡ Some x → (b ≡ true) × (o ≡ Some x)
-when_true true o x e = (refl, e)
-when_true false o x e = absurd cc
-
 session_found : (i : InterfaceText) (r : ScriptStruct) (s : ScriptText) (l : Loaded) → Reads r s → session_in i r ≡ Some l → Agree s i × (l ≡ loaded_of s i)
 unfolding session_in
 session_found i r s l reads e =
-    let whole = when_true (is_about i r) _ l e in
+    let whole = chosen (is_about i r) _ l e in
     let about = (about_is i r).0 whole.0 in
     let a = bind_some (rule_in i r.left.now r.right.now) (λ rule. events_in i.func 1 (map event_of r.events.items) >>= λ events. Some (made_of i r rule events)) l whole.1 in
     let b = bind_some (events_in i.func 1 (map event_of r.events.items)) (λ events. Some (made_of i r a.0 events)) l a.2 in

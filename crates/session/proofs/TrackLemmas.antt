@@ -5,7 +5,8 @@ use Rattle.session.specs.declared.plan.Plan.{Plan}
 use Rattle.session.specs.Courses.{Course, opened, offered, sent_frame, joined}
 use Rattle.session.specs.Tracks.{Tracks, request_frames}
 use Rattle.session.proofs.FramesArePackets.{requests_are_packets}
-use Rattle.session.proofs.PlanLemmas.{first_packets, taken_len}
+use Rattle.session.proofs.Lists.{taken_len}
+use Rattle.session.proofs.PlanLemmas.{first_packets}
 
 -- the requests that were offered are the frames that were read
 pub offered_is : (p : Plan) (c : Course) (t : Tracks p c) → offered p.service c ≡ take t.requests (request_frames p.service c)

@@ -8,7 +8,7 @@ use Rattle.session.specs.declared.link_log.GotRow.{GotRow}
 use Rattle.session.specs.declared.pending.Pending.{Pending}
 use Rattle.session.specs.declared.plan.Plan.{Plan}
 use Rattle.session.specs.declared.service.Service.{Service}
-use Rattle.session.specs.Courses.{WIDTH, is_open_under, settle, outcome, fate_of, Course, Opened, opened, sent_frame, answer_frame, joined, step, after_all}
+use Rattle.session.specs.Courses.{WIDTH, is_open_under, settle, outcome, fate_of, closed_call, Course, Opened, opened, sent_frame, answer_frame, joined, step, after_all}
 use Rattle.session.specs.Planned.{sent_row, got_rows}
 use Rattle.session.specs.Services.{IsService, AreTwoInts, reply_to}
 
@@ -29,7 +29,7 @@ abbrev pub course_of : Plan → Course
 course_of p = after_all p.service (take p.done p.events.now)
 
 -- The plan keeps what this course says. Bytes are read in whole frames: the node has read so many of
--- the requests, the caller so many of the answers.
+-- the requests, the caller so many of the answers. Behind a close no call is open.
 pub record Tracks (p : Plan) (c : Course) : Type 0 where
   pub service : IsService p.service
   pub each : AllByRecursion IsOpened (opened c)
@@ -46,6 +46,7 @@ pub record Tracks (p : Plan) (c : Course) : Type 0 where
   pub args_are : length c.args ≡ length c.calls
   pub sent_is : p.sent.items ≡ map (sent_row p.service) (opened c)
   pub closed_is : p.closed ≡ c.closed
+  pub all_ended : c.closed ≡ true → map closed_call c.calls ≡ c.calls
   pub to_node_is : p.to_node.items ≡ joined (drop requests (request_frames p.service c))
   pub queue_is : p.queue.items ≡ drop c.answered (take requests (request_frames p.service c))
   pub to_caller_is : p.to_caller.items ≡ joined (drop answers (take c.answered (answer_frames p.service c)))

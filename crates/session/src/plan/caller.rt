@@ -29,11 +29,14 @@ impl Plan<'_> {
         Ok(())
     }
 
-    /// The session is closed: each open call ends.
+    /// The session is closed: each open call ends. Where it was closed before, none is open.
     pub fn close(&mut self)
         requires { Tracks self.old (course_of self.old) }
         ensures { Follows self.old self.new Close }
     {
+        if self.closed {
+            return;
+        }
         close_all(&mut self.calls);
         self.closed = true;
     }

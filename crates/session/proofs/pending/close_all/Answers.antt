@@ -1,11 +1,8 @@
 use Rattle.std.proofs.Common.{◌≡◌, ◌<◌, ℕ, zero, suc, List, [], ◌∷◌, ◌++◌, length, take, drop, map, refl, sym, ap, ◌∙◌, arith, add-one}
 use Rattle.std.proofs.Math.ListN.{set, get_or}
 use Rattle.session.specs.Courses.{closed_call}
-use Rattle.session.proofs.SameHead.{same_head}
+use Rattle.session.proofs.Lists.{same_head, same_tail}
 use Rattle.session.proofs.pending.close_all.Goals as goal
-
-same_tail : {A : Type 0} {x y : A} {xs ys : List A} → x ∷ xs ≡ y ∷ ys → xs ≡ ys
-same_tail e = cc
 
 -- one more element of a list is replaced by its image
 one_more : {A : Type 0} (f : A → A) (init xs : List A) (i : ℕ) (x y : A) → i < length xs → xs ≡ map f (take i init) ++ drop i init
@@ -14,7 +11,7 @@ one_more f init [] i x y h e here is = absurd (omega arith)
 one_more f [] (z ∷ xs) zero x y h e here is = absurd (cc)
 one_more f (w ∷ init) (z ∷ xs) zero x y h e here is =
     let head : z ≡ w = same_head e in
-    ap (λ ys. ys) (rw (is, here, head, same_tail e) refl)
+    rw (is, here, head, same_tail e) refl
 one_more f [] (z ∷ xs) (suc i) x y h e here is = absurd (cc)
 one_more f (w ∷ init) (z ∷ xs) (suc i) x y h e here is =
     let head : z ≡ f w = same_head e in

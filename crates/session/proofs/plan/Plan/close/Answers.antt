@@ -1,10 +1,24 @@
-use Rattle.std.proofs.Common.{true, map, refl, sym, ap, ◌∙◌}
-use Rattle.session.specs.Courses.{closed_call}
-use Rattle.session.specs.Tracks.{course_of}
-use Rattle.session.proofs.Deliveries.{opened-closed}
+use Rattle.std.proofs.Common.{◌≡◌, true, map, refl, sym, ap, subst, ◌∙◌}
+use Rattle.std.proofs.lemmas.List.{length-map}
+use Rattle.session.specs.Courses.{Course, closed_call}
+use Rattle.session.specs.Tracks.{Tracks, course_of}
+use Rattle.session.proofs.Deliveries.{opened-closed, all_closed_twice}
 use Rattle.session.proofs.Moved.{moved}
-use Rattle.session.proofs.PlanLemmas.{length-map_frames}
 use Rattle.session.proofs.plan.Plan.close.Goals as goal
+
+-- where the session was closed before, nothing happens
+again : (c : Course) → c.closed ≡ true → map closed_call c.calls ≡ c.calls → record c { calls = map closed_call c.calls; closed = true } ≡ c
+again c e h = ap (λ calls. record c { calls = calls; closed = true }) h ∙ ap (λ closed. record c { closed = closed }) (sym e)
+
+pub returns-then-self : goal.returns-then-self
+returns-then-self c =
+    let t = c.requires in
+    let p = c.args.self.now in
+    let closed = sym t.closed_is ∙ c.if-self.true in
+    record {
+      same = record { service_is = refl; events_are = refl; done_is = refl };
+      tracks = subst (λ (course : Course). Tracks p course) (sym (again (course_of p) closed (t.all_ended closed))) t;
+    }
 
 pub returns : goal.returns
 returns c =
@@ -23,8 +37,9 @@ returns c =
             delivered_is = t.delivered_is;
             fates_are = t.fates_are;
             calls_are = c.close_all.ensures ∙ ap (λ calls. map closed_call calls) t.calls_are;
-            args_are = t.args_are ∙ sym (length-map_frames closed_call course.calls);
+            args_are = t.args_are ∙ sym (length-map course.calls closed_call);
             closed_is = refl;
+            all_ended = λ closed. all_closed_twice course.calls;
             to_caller_is = t.to_caller_is;
             got_is = t.got_is;
           });

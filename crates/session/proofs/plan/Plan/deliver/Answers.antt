@@ -1,4 +1,5 @@
 use Rattle.std.proofs.Common.{◌≡◌, ◌+◌, ◌-◌, ◌++◌, List, [], length, take, drop, map, refl, sym, ap, subst, ◌∙◌, arith, length-drop}
+use Rattle.std.proofs.lemmas.List.{length-map, take-map, drop-map}
 use Rattle.std.specs.List.{fold, AllByRecursion}
 use Rattle.wire_words.specs.Packets.{packets_of, IsPacket}
 use Rattle.wire_words.proofs.PacketLaws.{packets_of-joined}
@@ -11,7 +12,7 @@ use Rattle.session.specs.Tracks.{Tracks, TakeIn, course_of, IsOpened, Desk, come
 use Rattle.session.proofs.Deliveries.{Comes, comes}
 use Rattle.session.proofs.FramesArePackets.{answers_are_packets}
 use Rattle.session.proofs.Moved.{IsMoved, moved}
-use Rattle.session.proofs.PlanLemmas.{All-take, All-drop, map-take, map-drop, drop-take_same, got_and_came, taken_len, length-map_frames}
+use Rattle.session.proofs.Lists.{All-take, All-drop, drop-take_same, front_and_middle, taken_len}
 use Rattle.session.proofs.plan.Plan.deliver.Goals as goal
 
 -- the calls whose answers wait
@@ -25,8 +26,8 @@ each_waiting p c t = All-drop IsOpened (length c.fates) (answered_calls c) (All-
 waiting_frames : (p : Plan) (c : Course) (t : Tracks p c) → drop t.answers (take c.answered (answer_frames p.service c)) ≡ map (answer_frame p.service) (waiting c)
 waiting_frames p c t =
     sym (ap (λ n. map (answer_frame p.service) (drop n (answered_calls c))) t.fates_are
-    ∙ map-drop (answer_frame p.service) t.answers (answered_calls c)
-    ∙ ap (λ fs. drop t.answers fs) (map-take (answer_frame p.service) c.answered (opened c)))
+    ∙ sym (drop-map (answer_frame p.service) t.answers (answered_calls c))
+    ∙ ap (λ fs. drop t.answers fs) (sym (take-map (answer_frame p.service) c.answered (opened c))))
 
 -- the packets that wait are the answers to them
 waiting_packets : (p : Plan) (c : Course) (t : Tracks p c) → packets_of p.to_caller.items ≡ map (answer_frame p.service) (waiting c)
@@ -57,19 +58,20 @@ come_moved p q c t r takes same_closed empty =
     ∙ r.desk in
     let total = taken_len (answer_frame s) (opened c) c.answered (omega arith) in
     let left : length (waiting c) ≡ c.answered - length c.fates =
-    simp length-drop (ap (λ n. n - length c.fates) (sym (length-map_frames (answer_frame s) (answered_calls c)) ∙ ap length (map-take (answer_frame s) c.answered (opened c)) ∙ total)) in
+    simp length-drop (ap (λ n. n - length c.fates) (sym (length-map (answered_calls c) (answer_frame s)) ∙ ap length (sym (take-map (answer_frame s) c.answered (opened c))) ∙ total)) in
     let counted : length c.fates + length (waiting c) ≡ c.answered = omega arith in
     let together : ps ++ map (answer_frame s) (waiting c) ≡ take c.answered (answer_frames s c) =
-    ap (λ fs. ps ++ fs) (sym (waiting_frames p c t)) ∙ got_and_came t.answers c.answered (answer_frames s c) t.answers_within in
+    ap (λ fs. ps ++ fs) (sym (waiting_frames p c t)) ∙ front_and_middle t.answers c.answered (answer_frames s c) t.answers_within in
     record {
       opened_is = r.opened_is;
       served_is = ap (λ (e : Course). e.served) r.rest;
       answered_is = ap (λ (e : Course). e.answered) r.rest;
       within = omega arith;
-      delivered_is = ap (λ fs. length (joined fs)) (map-take (answer_frame s) c.answered (opened c));
+      delivered_is = ap (λ fs. length (joined fs)) (sym (take-map (answer_frame s) c.answered (opened c)));
       fates_are = r.fates_len ∙ counted;
       calls_are = ap (λ (d : Desk). d.calls) desk;
       args_are = ap (λ (e : Course). length e.args) r.rest ∙ t.args_are ∙ sym r.calls_len;
+      all_ended = λ closed. r.ended (t.all_ended (sym (ap (λ (e : Course). e.closed) r.rest) ∙ closed));
       closed_is = same_closed ∙ t.closed_is ∙ sym (ap (λ (e : Course). e.closed) r.rest);
       to_caller_is = empty ∙ ap joined (sym (drop-take_same c.answered (answer_frames s c)));
       got_is = ap (λ (d : Desk). d.got) desk ∙ ap (λ fs. got_rows fs r.end.fates) together;

@@ -18,6 +18,7 @@ returns-clause-tracks c = record {
   args_are = refl;
   sent_is = search;
   closed_is = refl;
+  all_ended = λ closed. refl;
   to_node_is = search;
   queue_is = search;
   to_caller_is = search;

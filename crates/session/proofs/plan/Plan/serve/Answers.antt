@@ -2,7 +2,8 @@ use Rattle.std.proofs.Common.{length, drop, refl, sym, ap, ◌∙◌, arith}
 use Rattle.session.specs.Courses.{opened, sent_frame, joined}
 use Rattle.session.specs.Tracks.{course_of, request_frames}
 use Rattle.session.proofs.FramesArePackets.{requests_are_packets}
-use Rattle.session.proofs.PlanLemmas.{all_taken, none_left, queue_served}
+use Rattle.session.proofs.Lists.{all_taken, none_left}
+use Rattle.session.proofs.PlanLemmas.{queue_served}
 use Rattle.session.proofs.plan.Plan.serve.Goals as goal
 
 pub returns : goal.returns
@@ -28,6 +29,7 @@ returns c =
         args_are = t.args_are;
         sent_is = t.sent_is;
         closed_is = t.closed_is;
+        all_ended = t.all_ended;
         to_node_is = rw c.replace-bytes.ensures.after (c.new.ensures.items ∙ ap joined (sym (none_left (sent_frame p.service) os)));
         queue_is =
             rw (c.in_ok-append.ensures.items, c.in_ok-requests.ensures, c.as_slice.ensures.value, c.replace-bytes.ensures.value, t.queue_is, t.to_node_is)

@@ -1,19 +1,13 @@
-use Rattle.std.proofs.Common.{◌≡◌, ◌<◌, ℕ, zero, suc, true, List, [], ◌∷◌, ◌++◌, Some, length, take, drop, refl, sym, ap, ◌∙◌, arith, drop-cons}
-use Rattle.std.proofs.Math.ListN.{set, get_or}
+use Rattle.std.proofs.Common.{◌≡◌, ◌<◌, ℕ, suc, true, List, ◌∷◌, ◌++◌, Some, length, take, drop, refl, sym, ap, ◌∙◌, drop-cons}
+use Rattle.std.proofs.Math.ListN.{get_or}
+use Rattle.std.proofs.lemmas.List.{set_split}
 use Rattle.std.specs.List.{list_any}
 use Rattle.session.specs.declared.pending.Pending.{Pending}
 use Rattle.session.specs.declared.report.End.{End}
 use Rattle.session.specs.Courses.{is_open_under, settle}
 use Rattle.session.specs.Tracks.{IsOpenAt}
-use Rattle.session.proofs.SameHead.{same_head}
+use Rattle.session.proofs.Lists.{same_head}
 use Rattle.session.proofs.plan.desk.open_place.Goals as goal
-
--- a list with another element at a place
-set_split : {A : Type 0} (k : ℕ) (xs : List A) (y : A) → k < length xs → take k xs ++ y ∷ drop (suc k) xs ≡ set xs k y
-set_split zero [] y h = absurd (omega arith)
-set_split zero (x ∷ xs) y h = refl
-set_split (suc k) [] y h = absurd (omega arith)
-set_split (suc k) (x ∷ xs) y h = ap (λ zs. x ∷ zs) (set_split k xs y (omega arith))
 
 open_at : (id : ℕ) (calls : List Pending) (k : ℕ) (x : Pending) → k < length calls → x ≡ get_or calls k x → true ≡ is_open_under id x
     → ((end : End) → settle id end calls ≡ take k calls ++ settle id end (drop k calls))
@@ -26,7 +20,7 @@ open_at id calls k x within here is_open before none =
       found = none ∙ rw (split, ← is_open) refl;
       settled = λ end call is.
           let same : call ≡ x = is ∙ same_head (sym (drop-cons calls k call within) ∙ split) in
-          before end ∙ rw (split, ← is_open, same) (set_split k calls (record x { end = Some end }) within);
+          before end ∙ rw (split, ← is_open, same) (sym (set_split calls k (record x { end = Some end }) within));
     }
 
 pub returns-then-is_open_under : goal.returns-then-is_open_under
