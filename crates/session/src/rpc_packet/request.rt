@@ -1,4 +1,6 @@
 ghost use Rattle.std.specs.Prelude.{◌≡◌, IfOk};
+ghost use Rattle.session.specs.RpcPackets.{IsSendable, request_members, request_frame, request_values};
+ghost use Rattle.session.specs.declared.rpc_packet.request.Request.{Request as Asked};
 
 use super::frame::{frame, no_texts, read_frame};
 use std::alloc::{AllocError, Global};
@@ -23,9 +25,6 @@ pub struct RequestRead {
     pub id: u32,
     pub body: Bytes8,
 }
-
-ghost use Rattle.session.specs.RpcPackets.{IsSendable, request_members, request_frame, request_values};
-ghost use Rattle.session.specs.declared.rpc_packet.request.Request.{Request as Asked};
 
 #[tactic(auto, using(crate::proofs::PacketFits::request_rises, crate::proofs::PacketFits::request_fits, crate::proofs::PacketLengths::request_short), unfolding(crate::specs::RpcPackets::request_frame))]
 pub fn write_request(

@@ -31,7 +31,7 @@ fn told(alloc: Global, report: &str) -> Result<String, Memory> {
 }
 
 /// Events, as a script has them but for the ends of their lines, and what their report tells.
-const CASES: [(&str, &str); 36] = [
+const CASES: [(&str, &str); 37] = [
     // Nothing to do.
     ("", ""),
     ("close", ""),
@@ -119,6 +119,10 @@ const CASES: [(&str, &str); 36] = [
         "node 1 live refused closed",
     ),
     ("call 1 add 2 3; close", "node 1 live id 1 closed"),
+    (
+        "call 1 add 2 3; close; close; serve 1; work 1; deliver 1; close",
+        "node 1 live id 1 closed; late",
+    ),
     (
         "call 1 add 2 3; serve 1; work 1; deliver 1; close",
         "node 1 live id 1 value 5; used 1",
