@@ -2,13 +2,13 @@
 use Rattle.std.proofs.Common.{◌≡◌, ◌≤◌, ℕ, List, length, take, Option, Some, None, refl, sym, ap, subst, ◌∙◌, arith, length-take, map, count_by}
 use Rattle.std.specs.Prelude.{Result, Ok, Err, IfSome, MatchOption}
 use Rattle.std.proofs.lemmas.List.{take_all}
-use Rattle.tars_base.specs.Contents.{Contents, IsFrontOfFile}
+use Rattle.tars_base.specs.Contents.{Contents, HoldsOnly, IsToldOnly, IsFrontOfFile}
 use Rattle.session.specs.declared.load_fault.LoadFault.{LoadFault}
 use Rattle.session.specs.declared.load_fault.LoadFault.TheVariants.{Refused, Read, Memory}
 use Rattle.session.specs.declared.loaded.Loaded.{Loaded}
 use Rattle.session.specs.declared.script.ScriptText.{ScriptText as ScriptStruct}
 use Rattle.session.specs.InterfaceText.{MAX_FILE, InterfaceText, IsInterfaceText}
-use Rattle.session.specs.LoadAnswers.{answer_of, IsExactly, IsExact, IsGiven, IsOnlyGiven, IsRefusedBy}
+use Rattle.session.specs.LoadAnswers.{answer_of, IsGiven, IsOnlyGiven, IsRefusedBy}
 use Rattle.session.specs.Loading.{LoadAnswer, loaded, refused, Loads, Agree, loaded_of, refusal_line, BAD_SCRIPT, BAD_INTERFACE, BAD_VALUE}
 use Rattle.session.specs.Loading.{no_script, bad_script, no_interface, bad_interface, bad_value, session}
 use Rattle.session.specs.Reading.{event_of, Reads}
@@ -130,8 +130,8 @@ reads_of c name r s text h is form = h.only s (subst (λ (b : List ℕ). IsScrip
 names_are : (c : Contents) (name other : List ℕ) (i j : InterfaceText) (file : List ℕ) → HoldsInterface c name i → c other ≡ Some file → name ≡ other → IsInterfaceText j file → i ≡ j
 names_are c name other i j file h is same form = h.only j (subst (λ (b : List ℕ). IsInterfaceText j b) (same_file c name other h.file file h.is is same) form)
 
-exactly_bad_script : (c : Contents) (name : List ℕ) → HoldsNoScript c name → IsExactly c name (refused (refusal_line name BAD_SCRIPT))
-exactly_bad_script c name h = record { gives = bad_script h.file h.is h.none; only = only_this }
+exactly_bad_script : (c : Contents) (name : List ℕ) → HoldsNoScript c name → HoldsOnly (Loads c name) (refused (refusal_line name BAD_SCRIPT))
+exactly_bad_script c name h = record { holds = bad_script h.file h.is h.none; only = only_this }
   where
     not_here : (text : List ℕ) (s : ScriptText) → c name ≡ Some text → IsScriptText s text → ⊥
     not_here text s is form = h.none s (subst (λ (b : List ℕ). IsScriptText s b) (same_file c name name h.file text h.is is refl) form)
@@ -144,8 +144,8 @@ exactly_bad_script c name h = record { gives = bad_script h.file h.is h.none; on
     only_this other (bad_value text file s i is form there names apart) = absurd (not_here text s is form)
     only_this other (session text file s i is form there names agree) = absurd (not_here text s is form)
 
-exactly_bad_interface : (c : Contents) (name : List ℕ) (r : ScriptStruct) → HoldsScript c name r → HoldsNoInterface c r.client.now → IsExactly c name (refused (refusal_line r.client.now BAD_INTERFACE))
-exactly_bad_interface c name r h n = record { gives = gives; only = only_this }
+exactly_bad_interface : (c : Contents) (name : List ℕ) (r : ScriptStruct) → HoldsScript c name r → HoldsNoInterface c r.client.now → HoldsOnly (Loads c name) (refused (refusal_line r.client.now BAD_INTERFACE))
+exactly_bad_interface c name r h n = record { holds = gives; only = only_this }
   where
     gives : Loads c name (refused (refusal_line r.client.now BAD_INTERFACE))
     gives =
@@ -184,10 +184,10 @@ of_both c name r i answer h n (session text file s j is form there names agree) 
     let same : i ≡ j = names_are c r.client.now s.client i j file n there reads.client names in
     subst (λ (j : InterfaceText). OfBoth r i name (loaded (loaded_of s j))) same (agreed s reads (subst (λ (j : InterfaceText). Agree s j) (sym same) agree))
 
-exactly_bad_value : (c : Contents) (name : List ℕ) (r : ScriptStruct) (i : InterfaceText) → HoldsScript c name r → HoldsInterface c r.client.now i → ((s : ScriptText) → Reads r s → ¬ Agree s i) → IsExactly c name (refused (refusal_line name BAD_VALUE))
+exactly_bad_value : (c : Contents) (name : List ℕ) (r : ScriptStruct) (i : InterfaceText) → HoldsScript c name r → HoldsInterface c r.client.now i → ((s : ScriptText) → Reads r s → ¬ Agree s i) → HoldsOnly (Loads c name) (refused (refusal_line name BAD_VALUE))
 exactly_bad_value c name r i h n unlike =
     record {
-      gives = bad_value h.file n.file h.text i h.is h.form (ap c (sym h.reads.client) ∙ n.is) n.form (unlike h.text h.reads);
+      holds = bad_value h.file n.file h.text i h.is h.form (ap c (sym h.reads.client) ∙ n.is) n.form (unlike h.text h.reads);
       only = λ other given. judged other (of_both c name r i other h n given);
     }
   where
@@ -195,8 +195,8 @@ exactly_bad_value c name r i h n unlike =
     judged other (apart s reads unlike) = refl
     judged other (agreed s reads agree) = absurd (unlike s reads agree)
 
-exactly_loaded : (c : Contents) (name : List ℕ) (r : ScriptStruct) (i : InterfaceText) (l : Loaded) → HoldsScript c name r → HoldsInterface c r.client.now i → ((s : ScriptText) → Reads r s → Agree s i × (l ≡ loaded_of s i)) → IsExactly c name (loaded l)
-exactly_loaded c name r i l h n agree = record { gives = gives; only = λ other given. judged other (of_both c name r i other h n given) }
+exactly_loaded : (c : Contents) (name : List ℕ) (r : ScriptStruct) (i : InterfaceText) (l : Loaded) → HoldsScript c name r → HoldsInterface c r.client.now i → ((s : ScriptText) → Reads r s → Agree s i × (l ≡ loaded_of s i)) → HoldsOnly (Loads c name) (loaded l)
+exactly_loaded c name r i l h n agree = record { holds = gives; only = λ other given. judged other (of_both c name r i other h n given) }
   where
     gives : Loads c name (loaded l)
     gives =
@@ -222,6 +222,9 @@ pub record HasNames (bytes : List ℕ) (i : InterfaceText) : Type 0 where
 -- as many calls as a script may have
 pub calls_read : (bytes : List ℕ) (r : ScriptStruct) → (s : ScriptText) × IsScriptText s bytes × Reads r s → count_by is_call_value (map event_of r.events.items) ≤ MAX_CALLS
 calls_read bytes r found = rw (found.2.events, ← calls_are found.0.events) found.1.calls
+
+abbrev pub IsExact : Option Contents → List ℕ → LoadAnswer → Type 0
+IsExact told name = IsToldOnly told (λ contents. Loads contents name)
 
 pub bad_script_told : (told : Option Contents) (name bytes : List ℕ) → IsFrontOfFile told name MOST bytes → ((s : ScriptText) → IsScriptText s bytes → ⊥) → IsExact told name (refused (refusal_line name BAD_SCRIPT))
 bad_script_told None name bytes front none = tt
@@ -254,8 +257,8 @@ refused_exact told name line Read exact by = tt
 
 pub exact_given : (told : Option Contents) (name : List ℕ) (result : Result Loaded LoadFault) → IfSome (answer_of result) (IsExact told name) → IsGiven told name result
 exact_given None name result exact = tt
-exact_given (Some c) name (Ok l) exact = exact.gives
-exact_given (Some c) name (Err (Refused line)) exact = exact.gives
+exact_given (Some c) name (Ok l) exact = exact.holds
+exact_given (Some c) name (Err (Refused line)) exact = exact.holds
 exact_given (Some c) name (Err Read) exact = tt
 exact_given (Some c) name (Err Memory) exact = tt
 

@@ -1,6 +1,5 @@
 -- What a call of loading answers, beside what loading gives (`specs/Loading.antt`).
-use Rattle.std.specs.Prelude.{◌≡◌, ◌≤◌, ℕ, List, Option, Some, None, Result, Ok, Err, IfSome, IsErrOf}
-use Rattle.tars_base.specs.Causes.{Rose}
+use Rattle.std.specs.Prelude.{◌≡◌, ℕ, List, Option, Some, None, Result, Ok, Err, IfSome}
 use Rattle.tars_base.specs.Contents.{Contents}
 use Rattle.tars_base.specs.declared.fault.ReadFault.{ReadFault}
 use Rattle.tars_base.specs.declared.fault.ReadFault.TheVariants as reads
@@ -27,16 +26,6 @@ IsRefusedBy line (Refused own) = own ≡ line
 IsRefusedBy line Read = ⊥
 IsRefusedBy line Memory = Unit {0}
 
--- loading gives this answer and no other
-pub record IsExactly (contents : Contents) (script : List ℕ) (answer : LoadAnswer) : Type 0 where
-  pub gives : Loads contents script answer
-  pub only : (other : LoadAnswer) → Loads contents script other → other ≡ answer
-
--- the same where contents are told
-abbrev pub IsExact : Option Contents → List ℕ → LoadAnswer → Type 0
-IsExact None script answer = Unit {0}
-IsExact (Some contents) script answer = IsExactly contents script answer
-
 -- where contents are told, loading gives what was answered
 abbrev pub IsGiven : Option Contents → List ℕ → Result Loaded LoadFault → Type 0
 IsGiven None script result = Unit {0}
@@ -47,8 +36,3 @@ abbrev pub IsOnlyGiven : Option Contents → List ℕ → Result Loaded LoadFaul
 IsOnlyGiven None script result = Unit {0}
 IsOnlyGiven (Some contents) script result =
     IfSome (answer_of result) (λ answer. (other : LoadAnswer) → Loads contents script other → other ≡ answer)
-
--- a failed read is answered only where the count of faults rose; want of memory has no cause to show
-pub record LoadHasCause {T : Type 0} (before now : ℕ) (result : Result T LoadFault) : Type 0 where
-  pub later : before ≤ now
-  pub failed : IsErrOf result Read → Rose before now

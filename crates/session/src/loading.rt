@@ -1,8 +1,10 @@
 //! Loading: a script and its interface file are read and judged (docs/SCRIPTS.md, "Loading").
 
 ghost use Rattle.std.specs.Prelude.{◌≡◌, IfOk, IfSome};
-ghost use Rattle.session.specs.LoadAnswers.{answer_of, IsExact, IsGiven, IsOnlyGiven, IsRefusedBy, LoadHasCause};
-ghost use Rattle.session.specs.Loading.{IsLoaded, refusal_line};
+ghost use Rattle.session.specs.LoadAnswers.{answer_of, IsGiven, IsOnlyGiven, IsRefusedBy};
+ghost use Rattle.session.specs.Loading.{IsLoaded, Loads, refusal_line};
+ghost use Rattle.tars_base.specs.Causes.{HasCauseOf};
+ghost use Rattle.tars_base.specs.Contents.{IsToldOnly};
 
 use crate::scan::MAX_FILE;
 use crate::{LoadFault, Loaded, Mode, read_interface, read_script};
@@ -49,9 +51,9 @@ fn refused(alloc: Global, name: &str, what: &[u8]) -> LoadFault
 /// The session of a script that is run at once.
 fn load_plan<F: Files>(alloc: Global, files: &mut F, name: &str) -> Result<Loaded, LoadFault>
     ensures sound { IfOk result (λ l. IsLoaded l) }
-    ensures exact { IfSome (answer_of result) (λ a. IsExact (F.contents files.old) name.now a) }
+    ensures exact { IfSome (answer_of result) (λ a. IsToldOnly (F.contents files.old) (λ contents. Loads contents name.now) a) }
     ensures same { F.contents files.new ≡ F.contents files.old }
-    ensures cause { LoadHasCause (F.faults files.old) (F.faults files.new) result }
+    ensures cause { HasCauseOf LoadFault.Read (F.faults files.old) (F.faults files.new) result }
 {
     let text = files.read(alloc, name, MOST)?;
     let Some(script) = read_script(alloc, &text)? else {
@@ -82,7 +84,7 @@ pub fn load<F: Files>(
     ensures told { IsGiven (F.contents files.old) name.now result }
     ensures only { IsOnlyGiven (F.contents files.old) name.now result }
     ensures same { F.contents files.new ≡ F.contents files.old }
-    ensures cause { LoadHasCause (F.faults files.old) (F.faults files.new) result }
+    ensures cause { HasCauseOf LoadFault.Read (F.faults files.old) (F.faults files.new) result }
 {
     match mode {
         Mode::Plan => load_plan(alloc, files, name),

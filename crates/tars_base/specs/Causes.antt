@@ -1,7 +1,5 @@
 -- Why a call on the outside failed: the object counts its faults, and the count never falls.
 use Rattle.std.specs.Prelude.{ℕ, ◌+◌, ◌-◌, ◌^◌, ◌≤◌, min, Result, IsErr, IsErrOf}
-use Rattle.tars_base.specs.declared.fault.ReadFault.{ReadFault}
-use Rattle.tars_base.specs.declared.fault.ReadFault.TheVariants.{Failed}
 
 -- where a counter of faults stays
 abbrev pub last_count : ℕ
@@ -16,7 +14,7 @@ pub record HasCause {T E : Type 0} (before now : ℕ) (result : Result T E) : Ty
   pub later : before ≤ now
   pub failed : IsErr result → Rose before now
 
--- a read answers `Failed` only where the count rose; want of memory has no cause to show
-pub record ReadHasCause {T : Type 0} (before now : ℕ) (result : Result T ReadFault) : Type 0 where
+-- this error comes only where the count rose; want of memory has no cause to show
+pub record HasCauseOf {T E : Type 0} (error : E) (before now : ℕ) (result : Result T E) : Type 0 where
   pub later : before ≤ now
-  pub failed : IsErrOf result Failed → Rose before now
+  pub failed : IsErrOf result error → Rose before now

@@ -11,6 +11,16 @@ abbrev pub IsFrontOfFile : Option Contents → List ℕ → ℕ → List ℕ →
 IsFrontOfFile None name most bytes = Unit {0}
 IsFrontOfFile (Some files) name most bytes = MatchOption (files name) ⊥ (λ file. bytes ≡ take most file)
 
+-- this holds, and of nothing else
+pub record HoldsOnly {A : Type 0} (P : A → Type 0) (x : A) : Type 0 where
+  pub holds : P x
+  pub only : (other : A) → P other → other ≡ x
+
+-- the same where contents are told
+abbrev pub IsToldOnly : {A : Type 0} → Option Contents → (Contents → A → Type 0) → A → Type 0
+IsToldOnly None P x = Unit {0}
+IsToldOnly (Some contents) P x = HoldsOnly (P contents) x
+
 -- what was written grew by a front of the text
 abbrev pub AppendsFront : Option (List ℕ) → Option (List ℕ) → List ℕ → Type 0
 AppendsFront old new text =

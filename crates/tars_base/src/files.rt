@@ -1,5 +1,5 @@
 ghost use Rattle.std.specs.Prelude.{◌≡◌, ◌≤◌, ℕ, Option, IfOk, vec_len};
-ghost use Rattle.tars_base.specs.Causes.{ReadHasCause};
+ghost use Rattle.tars_base.specs.Causes.{HasCauseOf};
 ghost use Rattle.tars_base.specs.Contents.{Contents, IsFrontOfFile};
 
 use crate::ReadFault;
@@ -19,5 +19,5 @@ pub trait Files {
             (λ bytes. IsFrontOfFile (contents self.old) name.now most bytes.items) }
         ensures within { IfOk result (λ bytes. vec_len bytes ≤ most) }
         ensures same { contents self.new ≡ contents self.old }
-        ensures cause { ReadHasCause (faults self.old) (faults self.new) result };
+        ensures cause { HasCauseOf ReadFault.Failed (faults self.old) (faults self.new) result };
 }

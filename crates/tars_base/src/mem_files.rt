@@ -1,6 +1,6 @@
 ghost use Rattle.std.specs.Prelude.{◌≡◌, ◌≤◌, ◌↔◌, ◌==◌, ℕ, Some, map, IfOk, IsTrue, IsErrOf, vec_len, option_copied};
 ghost use Rattle.tars_base.specs.Calls.{no_calls, counted};
-ghost use Rattle.tars_base.specs.Causes.{ReadHasCause};
+ghost use Rattle.tars_base.specs.Causes.{HasCauseOf};
 ghost use Rattle.tars_base.specs.Contents.{IsFrontOfFile};
 ghost use Rattle.tars_base.specs.MemFiles.{contents_of, named};
 
@@ -74,7 +74,7 @@ impl Files for MemFiles {
             (λ bytes. IsFrontOfFile (Some (contents_of self.old.files)) name.now most bytes.items) }
         ensures within { IfOk result (λ bytes. vec_len bytes ≤ most) }
         ensures same { self.new.files ≡ self.old.files }
-        ensures cause { ReadHasCause self.old.calls.faults self.new.calls.faults result }
+        ensures cause { HasCauseOf ReadFault.Failed self.old.calls.faults self.new.calls.faults result }
 
         // Which reads fail, and how they are counted.
         ensures failed { IsErrOf result ReadFault.Failed ↔ IsTrue (fails_at self.old name.now) }

@@ -1,7 +1,7 @@
 -- What is due follows from what loading gives, and how a run ends from what is due.
 use Rattle.std.proofs.Common.{◌≡◌, ◌≢◌, ℕ, List, [], ◌∷◌, Option, Some, None, refl, sym, ap, subst, ◌∙◌, ◌⊎◌, inl, inr, codes}
 use Rattle.std.specs.Prelude.{Ok, Err}
-use Rattle.tars_base.specs.Contents.{Contents}
+use Rattle.tars_base.specs.Contents.{Contents, HoldsOnly, IsToldOnly}
 use Rattle.tars_base.specs.declared.status.Status.{Status}
 use Rattle.tars_base.specs.declared.status.Status.TheVariants.{Done, Refused, Usage, ReadFault, WriteFault, Memory}
 use Rattle.session.specs.declared.load_fault.LoadFault.TheVariants as faults
@@ -13,7 +13,7 @@ use Rattle.session.specs.Planned.{planned}
 use Rattle.session.specs.ReportText.{report_text_of}
 use Rattle.tars_tool.specs.Words.{AskForPlan, AreNoForm}
 use Rattle.tars_tool.specs.Due.{DueAnswer, usage, refused, unread, done, Due, no_form, plan_unread, plan_refused, plan_done}
-use Rattle.tars_tool.specs.Runs.{IsExactly, IsExact, EndsWith, WritesDue, EndsAsDue, MayEnd}
+use Rattle.tars_tool.specs.Runs.{EndsWith, WritesDue, EndsAsDue, MayEnd}
 
 -- the words ask for one script
 same_script : (words : List (List ℕ)) (a b : List ℕ) → AskForPlan words a → AskForPlan words b → b ≡ a
@@ -41,15 +41,18 @@ due_only c words script answer ask only other (plan_done s l asked given) =
     ap due_by (only (load.loaded l) (subst (λ (s : List ℕ). Loads c s (load.loaded l)) (same_script words script s ask asked) given))
 
 exactly : (c : Contents) (words : List (List ℕ)) (script : List ℕ) (answer : LoadAnswer) → AskForPlan words script → Loads c script answer → ((other : LoadAnswer) → Loads c script other → other ≡ answer)
-    → IsExactly c words (due_by answer)
-exactly c words script answer ask given only = record { due = due_given c words script answer ask given; only = due_only c words script answer ask only }
+    → HoldsOnly (Due c words) (due_by answer)
+exactly c words script answer ask given only = record { holds = due_given c words script answer ask given; only = due_only c words script answer ask only }
+
+abbrev pub IsExact : Option Contents → List (List ℕ) → DueAnswer → Type 0
+IsExact told words = IsToldOnly told (λ contents. Due contents words)
 
 -- the text of a session that was loaded
 pub due_done : (told : Option Contents) (words : List (List ℕ)) (script text : List ℕ) (l : Loaded) → AskForPlan words script → IsGiven told script (Ok l) → IsOnlyGiven told script (Ok l)
     → text ≡ report_text_of l (planned l) → IsExact told words (done text)
 due_done None words script text l ask given only is = tt
 due_done (Some c) words script text l ask given only is =
-    subst (λ (t : List ℕ). IsExactly c words (done t)) (sym is) (exactly c words script (load.loaded l) ask given only)
+    subst (λ (t : List ℕ). HoldsOnly (Due c words) (done t)) (sym is) (exactly c words script (load.loaded l) ask given only)
 
 -- the line of a refusal
 pub due_refused : (told : Option Contents) (words : List (List ℕ)) (script line : List ℕ) → AskForPlan words script → IsGiven told script (Err (faults.Refused line)) → IsOnlyGiven told script (Err (faults.Refused line))
@@ -71,16 +74,16 @@ usage_ends (Some c) words none = by_row
 
 pub done_writes : (told : Option Contents) (words : List (List ℕ)) (text : List ℕ) (old new : Option (List ℕ)) (status : Status) → IsExact told words (done text) → EndsWith old new text Done status → WritesDue told words old new status
 done_writes None words text old new status exact ends = tt
-done_writes (Some c) words text old new status exact (inl all) = subst (λ (s : Status). WritesDue (Some c) words old new s) (sym all.0) (text, exact.due, all.1)
-done_writes (Some c) words text old new status exact (inr front) = subst (λ (s : Status). WritesDue (Some c) words old new s) (sym front.0) (text, inl exact.due, front.1)
+done_writes (Some c) words text old new status exact (inl all) = subst (λ (s : Status). WritesDue (Some c) words old new s) (sym all.0) (text, exact.holds, all.1)
+done_writes (Some c) words text old new status exact (inr front) = subst (λ (s : Status). WritesDue (Some c) words old new s) (sym front.0) (text, inl exact.holds, front.1)
 
 pub refused_writes : (told : Option Contents) (words : List (List ℕ)) (line : List ℕ) (old new : Option (List ℕ)) (status : Status) → IsExact told words (refused line) → EndsWith old new line Refused status → WritesDue told words old new status
 refused_writes None words line old new status exact ends = tt
-refused_writes (Some c) words line old new status exact (inl all) = subst (λ (s : Status). WritesDue (Some c) words old new s) (sym all.0) (line, exact.due, all.1)
-refused_writes (Some c) words line old new status exact (inr front) = subst (λ (s : Status). WritesDue (Some c) words old new s) (sym front.0) (line, inr exact.due, front.1)
+refused_writes (Some c) words line old new status exact (inl all) = subst (λ (s : Status). WritesDue (Some c) words old new s) (sym all.0) (line, exact.holds, all.1)
+refused_writes (Some c) words line old new status exact (inr front) = subst (λ (s : Status). WritesDue (Some c) words old new s) (sym front.0) (line, inr exact.holds, front.1)
 
 -- an end that this may have, when nothing else is due
-only_ends : (c : Contents) (words : List (List ℕ)) (answer : DueAnswer) (status end : Status) → IsExactly c words answer → status ≡ end → MayEnd answer end → EndsAsDue (Some c) words status
+only_ends : (c : Contents) (words : List (List ℕ)) (answer : DueAnswer) (status end : Status) → HoldsOnly (Due c words) answer → status ≡ end → MayEnd answer end → EndsAsDue (Some c) words status
 only_ends c words answer status end exact is may = λ other due.
     subst (λ (a : DueAnswer). MayEnd a status) (sym (exact.only other due)) (subst (λ (s : Status). MayEnd answer s) (sym is) may)
 

@@ -65,16 +65,6 @@ due_of (Err (faults.Refused line)) = Some (refused line)
 due_of (Err faults.Read) = None
 due_of (Err faults.Memory) = None
 
--- this is due and nothing else
-pub record IsExactly (contents : Contents) (words : List (List ℕ)) (answer : DueAnswer) : Type 0 where
-  pub due : Due contents words answer
-  pub only : (other : DueAnswer) → Due contents words other → other ≡ answer
-
--- the same where contents are told
-abbrev pub IsExact : Option Contents → List (List ℕ) → DueAnswer → Type 0
-IsExact None words answer = Unit {0}
-IsExact (Some contents) words answer = IsExactly contents words answer
-
 -- a text that is printed is the report of a session
 abbrev pub IsSessionText : List ℕ → Type 0
 IsSessionText text = (l : Loaded) × IsLoaded l × (text ≡ report_text_of l (planned l))

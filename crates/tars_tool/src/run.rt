@@ -1,14 +1,15 @@
 //! A run of the program over files and a sink. What it should do is said by `specs/Due.antt`.
 
 ghost use Rattle.std.specs.Prelude.{◌≡◌, ◌≢◌, ◌↔◌, ℕ, List, map, string_bytes, IfOk, IfSome};
-ghost use Rattle.session.specs.LoadAnswers.{LoadHasCause};
 ghost use Rattle.session.specs.Loading.{IsLoaded};
 ghost use Rattle.session.specs.Planned.{planned};
 ghost use Rattle.session.specs.ReportText.{report_text_of};
-ghost use Rattle.tars_base.specs.Causes.{Rose};
+ghost use Rattle.tars_base.specs.Causes.{HasCauseOf, Rose};
+ghost use Rattle.tars_base.specs.Contents.{IsToldOnly};
+ghost use Rattle.tars_tool.specs.Due.{Due};
 ghost use Rattle.tars_tool.specs.Words.{AskForPlan, AreNoForm};
 ghost use Rattle.tars_tool.specs.Runs.{WritesDue, EndsAsDue, PrintsSession, KeepsQuiet};
-ghost use Rattle.tars_tool.specs.Runs.{due_of, IsExact, IsSessionText, EndsWith};
+ghost use Rattle.tars_tool.specs.Runs.{due_of, IsSessionText, EndsWith};
 
 use crate::words::planned_script;
 use session::{LoadFault, Loaded, Mode, load, report_text, run_plan};
@@ -29,9 +30,9 @@ fn session_text(alloc: Global, loaded: &Loaded) -> Result<Vec<u8>, AllocError>
 fn plan_text<F: Files>(alloc: Global, files: &mut F, script: &str) -> Result<Vec<u8>, LoadFault>
     ensures sound { IfOk result (λ text. IsSessionText text.items) }
     ensures exact { (words : List (List ℕ)) → AskForPlan words script.now
-        → IfSome (due_of result) (λ a. IsExact (F.contents files.old) words a) }
+        → IfSome (due_of result) (λ a. IsToldOnly (F.contents files.old) (λ contents. Due contents words) a) }
     ensures same { F.contents files.new ≡ F.contents files.old }
-    ensures cause { LoadHasCause (F.faults files.old) (F.faults files.new) result }
+    ensures cause { HasCauseOf LoadFault.Read (F.faults files.old) (F.faults files.new) result }
 {
     let loaded = load(alloc, files, script, Mode::Plan)?;
     Ok(session_text(alloc, &loaded)?)
