@@ -1,12 +1,10 @@
 -- What a loaded script is about (docs/SCRIPTS.md).
-use Rattle.std.specs.Prelude.{◌≡◌, ℕ, false, ℤ, pos, negsuc, ◌≤ℤ◌, Some, List, [], ◌∷◌}
+use Rattle.std.specs.Prelude.{ℕ, false, ℤ, pos, negsuc, ◌≤ℤ◌, Some, List, [], ◌∷◌}
 use Rattle.tars_model.specs.declared.func_desc.FuncDesc.{FuncDesc}
 use Rattle.tars_model.specs.declared.func_desc.Param.{Param}
 use Rattle.tars_model.specs.declared.schema.Schema.{Schema}
 use Rattle.tars_model.specs.declared.schema.Decl.TheVariants.{Interface}
 use Rattle.tars_model.specs.declared.ty.Ty.{Int}
-use Rattle.tars_model.specs.declared.value.Value.{Num}
-use Rattle.session.specs.declared.loaded.CallSpec.{CallSpec}
 
 -- `int func(int first, int second)`
 abbrev pub int_param : List ℕ → Param
@@ -27,12 +25,3 @@ schema_of_one module_name interface func =
 -- an int
 abbrev pub IsInt : ℤ → Type 0
 IsInt n = (negsuc 2147483647 ≤ℤ n) × (n ≤ℤ pos 2147483647)
-
--- a call of the one function by the one line, with two ints
-pub record IsCall (spec : CallSpec) (call : ℕ) (left right : ℤ) : Type 0 where
-  pub call_is : spec.call ≡ call
-  pub line_is : spec.line ≡ 1
-  pub func_is : spec.func ≡ 0
-  pub args_are : spec.args ≡ Num left ∷ Num right ∷ []
-  pub left_int : IsInt left
-  pub right_int : IsInt right
