@@ -7,7 +7,7 @@ use Rattle.std.proofs.lemmas.Slice.Eq.{bytes_eq-Decides}
 use Rattle.session.specs.Words.{is_letter, IsName, is_number}
 use Rattle.session.specs.Reading.{int_of, EventValue, event_meant}
 use Rattle.session.specs.Reading as value
-use Rattle.session.specs.Scan.{◌>>=◌}
+use Rattle.wire_words.specs.Bind.{◌>>=◌}
 use Rattle.session.specs.ScriptText.{EventText, event_line, IsEvent, MAX_LINE}
 use Rattle.session.specs.ScriptText as script
 use Rattle.session.specs.ScriptSteps.{call_on, event_on, short, events_on}

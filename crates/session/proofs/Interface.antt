@@ -13,7 +13,8 @@ use Rattle.session.specs.Reading.{names_of}
 use Rattle.session.specs.Words.{IsName}
 use Rattle.session.specs.InterfaceText.{InterfaceText, IsInterfaceText, interface_line, MAX_FILE}
 use Rattle.session.specs.InterfaceSteps.{signature_at, names_at, named, is_end, interface_at}
-use Rattle.session.specs.Scan.{◌>>=◌, Gives}
+use Rattle.wire_words.specs.Bind.{◌>>=◌}
+use Rattle.session.specs.Scan.{Gives}
 use Rattle.session.proofs.Readers.{IsFront, chosen, bind_some, bind_is, some_is, skip_front, and_front, map_front}
 use Rattle.session.proofs.Names.{name_before_front}
 

@@ -18,7 +18,7 @@ use Rattle.session.specs.Services.{IsService, reply_to, service_of}
 use Rattle.session.specs.ScriptText.{EventText, call, serve, work, deliver, close}
 use Rattle.session.specs.Loading.{IsLoaded, events_from}
 use Rattle.session.specs.Tracks.{IsOpened}
-use Rattle.session.specs.Legal.{Scripted, scripted, scripted_after, sent_before, IsUsedPacket, IsUsedId, IsReplied, IsRefusal, pick_of, packet_of, picked_of, IsSentAs, IsLegal}
+use Rattle.session.specs.Legal.{Scripted, scripted, scripted_after, sent_before, IsUsedId, IsReplied, IsRefusal, pick_of, packet_of, picked_of, IsSentAs, IsRowAt, AreRefused, AreSent, AreReplied, IsLegal}
 use Rattle.session.proofs.FramesArePackets.{answers_are_packets}
 use Rattle.session.proofs.LoadedLemmas.{service_sound}
 use Rattle.session.proofs.Lists.{All-take}
@@ -88,18 +88,10 @@ one_call : {s : Service} {xs : List Scripted} {n k : ℕ} {calls : List Pending}
     (x : Scripted) (p : IsAt s xs n k calls os all row) → slice_get xs k ≡ Some x → p.x ≡ x
 one_call x p e = some_is p.x x (sym p.x_at ∙ e)
 
-legal_course : (l : Loaded) (c : Course) → IsLoaded l → IsSoundCourse (service_of l) (scripted l.events) c → IsLegal l (report_of (service_of l) c)
-legal_course l c h t =
-    let s = service_of l in
+refused_right : (l : Loaded) (c : Course) → IsSoundCourse (service_of l) (scripted l.events) c → AreRefused l (map row_of c.calls)
+refused_right l c t =
     let os = opened c in
-    let whole = got_whole s (scripted l.events) c (service_sound l h) t in
     record {
-      link = link_log s c;
-      one_link = refl;
-      node = refl;
-      whole = (refl, refl);
-      rows = headings t.calls ∙ scripted_calls false l.events;
-      ids = ids_rise t.calls;
       full = λ k row e. full_at (at os c.fates t.calls refl refl k row e);
       late = λ k row x e f. late_at x f (at os c.fates t.calls refl refl k row e);
       unsent = λ k row e.
@@ -108,29 +100,67 @@ legal_course l c h t =
       picks = λ k row e.
           let p = at os c.fates t.calls refl refl k row e in
           on_row (λ (r : Row). r.pick ≡ pick_of r.end) p (picked_exactly p.is);
-      sends = calls_sent t.calls;
+    }
+
+sent_right : (l : Loaded) (c : Course) → IsLoaded l → IsSoundCourse (service_of l) (scripted l.events) c
+    → AreSent l (map row_of c.calls) (map (sent_row (service_of l)) (opened c))
+sent_right l c h t =
+    let os = opened c in
+    record {
+      calls = calls_sent t.calls;
       requests = λ k row x id e f own.
           let p = at os c.fates t.calls refl refl k row e in
-          subst (λ (y : Scripted). IsSentAs l (map (sent_row s) os) y.spec id) (one_call x p f)
+          subst (λ (y : Scripted). IsSentAs l (map (sent_row (service_of l)) os) y.spec id) (one_call x p f)
           (sent_exactly l os p.m p.x id (All-at (λ (x : Scripted). x.spec.func ≡ 0) (scripted l.events) k p.x (first_function l h) p.x_at) p.is
           (ap (λ (r : Row). r.id) (sym p.row_is) ∙ own));
+    }
+
+replied_right : (l : Loaded) (c : Course) → IsLoaded l → IsSoundCourse (service_of l) (scripted l.events) c
+    → AreReplied l (map row_of c.calls) (all_got_rows (service_of l) (opened c) c.fates)
+replied_right l c h t =
+    let s = service_of l in
+    let os = opened c in
+    record {
       rule = λ k row x packet e f place.
           let p = at os c.fates t.calls refl refl k row e in
           subst (λ (y : Scripted). row.end ≡ outcome packet (reply_to s y.spec.args)) (one_call x p f)
           (ap (λ (r : Row). r.end) p.row_is ∙ rule_exactly packet p.is (ap (λ (r : Row). packet_of r.end) (sym p.row_is) ∙ place));
-      replies = λ k row e.
+      packets = λ k row e.
           let p = at os c.fates t.calls refl refl k row e in
-          subst (λ (got : List GotRow). IsReplied l got row row.end) (sym whole)
-          (subst (λ (r : Row). IsReplied l (all_got_rows s os c.fates) r r.end) (sym p.row_is)
-          (replied_as l c.fates os p.m p.x p.call (All-at (λ (x : Scripted). x.spec.func ≡ 0) (scripted l.events) k p.x (first_function l h) p.x_at) p.is));
-      closed = λ k row e.
-          let p = at os c.fates t.calls refl refl k row e in
-          subst (λ (got : List GotRow). (row.end ≡ Closed) ↔ ((id : CallId) × (row.id ≡ Some id) × (IsUsedId got id → ⊥))) (sym whole)
-          (subst (λ (r : Row). (r.end ≡ Closed) ↔ ((id : CallId) × (r.id ≡ Some id) × (IsUsedId (all_got_rows s os c.fates) id → ⊥))) (sym p.row_is)
-          (closed_exactly os p.m p.x p.call t.calls p.is));
+          subst (λ (r : Row). IsReplied l (all_got_rows s os c.fates) r r.end) (sym p.row_is)
+          (replied_as l c.fates os p.m p.x p.call (All-at (λ (x : Scripted). x.spec.func ≡ 0) (scripted l.events) k p.x (first_function l h) p.x_at) p.is);
       used = λ packet frame id u.
-          let n = used_named os t.calls packet frame id (subst (λ (got : List GotRow). IsUsedPacket got packet frame id) whole u) in
+          let n = used_named os t.calls packet frame id u in
           (n.k, n.row, n.there, n.id_is, n.end_is);
+    }
+
+abbrev EndsByClose : List Row → List GotRow → Type 0
+EndsByClose rows got =
+    (k : ℕ) (row : Row) → IsRowAt rows k row → (row.end ≡ Closed) ↔ ((id : CallId) × (row.id ≡ Some id) × (IsUsedId got id → ⊥))
+
+closed_right : (l : Loaded) (c : Course) → IsSoundCourse (service_of l) (scripted l.events) c
+    → EndsByClose (map row_of c.calls) (all_got_rows (service_of l) (opened c) c.fates)
+closed_right l c t k row e =
+    let os = opened c in
+    let p = at os c.fates t.calls refl refl k row e in
+    subst (λ (r : Row). (r.end ≡ Closed) ↔ ((id : CallId) × (r.id ≡ Some id) × (IsUsedId (all_got_rows (service_of l) os c.fates) id → ⊥))) (sym p.row_is)
+    (closed_exactly os p.m p.x p.call t.calls p.is)
+
+legal_course : (l : Loaded) (c : Course) → IsLoaded l → IsSoundCourse (service_of l) (scripted l.events) c → IsLegal l (report_of (service_of l) c)
+legal_course l c h t =
+    let s = service_of l in
+    let whole = got_whole s (scripted l.events) c (service_sound l h) t in
+    record {
+      link = link_log s c;
+      one_link = refl;
+      node = refl;
+      whole = (refl, refl);
+      rows = headings t.calls ∙ scripted_calls false l.events;
+      ids = ids_rise t.calls;
+      refusals = refused_right l c t;
+      sends = sent_right l c h t;
+      replies = subst (AreReplied l (map row_of c.calls)) (sym whole) (replied_right l c h t);
+      closed = subst (EndsByClose (map row_of c.calls)) (sym whole) (closed_right l c t);
       routes =
           ap (λ steps. steps ++ filter_map reported_step c.calls) (picks_same c.calls)
           ∙ ap (λ steps. filter_map picked_of (map row_of c.calls) ++ steps) (reports_same c.calls);

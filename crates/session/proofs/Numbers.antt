@@ -14,7 +14,8 @@ use Rattle.std.proofs.lemmas.Option.{cond_some}
 use Rattle.session.specs.Words.{is_digit, is_natural, is_number, number_of, IsNaturalWithin}
 use Rattle.session.specs.Scan.{Gives}
 use Rattle.session.specs.Numbers.{natural, natural_within, number}
-use Rattle.session.specs.Reading.{is_int, int_of}
+use Rattle.session.specs.Reading.{int_of}
+use Rattle.tars_model.specs.Fits.{is_int}
 use Rattle.session.specs.Scan.{utf8}
 use Rattle.session.proofs.Texts.{utf8_takes}
 use Rattle.session.proofs.Names.{lacks_from}

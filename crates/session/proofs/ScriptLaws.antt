@@ -9,7 +9,8 @@ use Rattle.session.specs.InterfaceText.{MAX_FILE}
 use Rattle.session.specs.ScriptText.{EventText, ObjectText, ScriptText, object_id, client_line, interface_header, object_line, servant_line, event_line, script_lines, script_text, is_host_byte, IsObject, IsEvent, is_call, IsScriptText, MAX_LINE, MAX_CALLS}
 use Rattle.session.specs.ScriptText as script
 use Rattle.session.specs.Reading.{EventValue, event_meant, Reads}
-use Rattle.session.specs.Scan.{◌>>=◌, Gives}
+use Rattle.wire_words.specs.Bind.{◌>>=◌}
+use Rattle.session.specs.Scan.{Gives}
 use Rattle.session.specs.ScriptSteps.{lines_of, events_on, is_call_value, HeaderValue, header_at, script_of, script_at}
 use Rattle.session.proofs.Readers.{chosen, bind_some, bind_is, some_is}
 use Rattle.session.proofs.Lines.{IsPlain, IsJoined, lines_join, joined_lines}

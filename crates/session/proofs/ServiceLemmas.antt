@@ -1,7 +1,7 @@
 -- What the bodies, the request and the response of a call are like.
-use Rattle.std.proofs.Common.{◌≡◌, ◌<◌, ◌≤◌, ◌^◌, ◌⊎◌, inl, inr, ◌+ℤ◌, ℕ, ℤ, pos, negsuc, Bool, true, false, List, [], ◌∷◌, length, refl, sym, ap, subst, ◌∙◌, of_z, w32, arith, rules, length-append, lit≤, T}
-use Rattle.std.specs.Prelude.{int_le}
-use Rattle.tars_model.specs.Fits.{FitMembers, HaveRisingTags}
+use Rattle.std.proofs.Common.{◌≡◌, ◌<◌, ◌≤◌, ◌^◌, ◌⊎◌, inl, inr, ◌+ℤ◌, ℕ, ℤ, Bool, true, false, List, [], ◌∷◌, length, refl, sym, ap, subst, ◌∙◌, of_z, w32, arith, rules, length-append, lit≤}
+use Rattle.tars_model.specs.Fits.{FitMembers, HaveRisingTags, IsInt, is_int}
+use Rattle.tars_model.proofs.Ints.{int_test, int_passes}
 use Rattle.tars_model.specs.Members.{required}
 use Rattle.tars_model.specs.declared.ty.Ty.{Int}
 use Rattle.tars_model.specs.declared.ty.Ty.TheVariants.{outs-Int}
@@ -10,7 +10,6 @@ use Rattle.tars_model.specs.declared.value.Value.TheVariants.{outs-Num}
 use Rattle.tars_codec.specs.Written.{written}
 use Rattle.session.specs.declared.rpc_packet.response.Response.{Response}
 use Rattle.session.specs.declared.service.Service.{Service}
-use Rattle.session.specs.Sessions.{IsInt}
 use Rattle.session.specs.Services.{IsService, AreTwoInts, Asks, Reply, sum, code, UNKNOWN, added, argument, reply_to, request_of, response_of, response_with}
 use Rattle.session.specs.RpcPackets.{IsSendable, IsAnswerable}
 use Rattle.session.proofs.PacketLengths.{num_short}
@@ -57,49 +56,35 @@ request_sendable s args id h ints small = record {
   timeout = h.timeout_small;
 }
 
--- a test that passed
-passed : (b : Bool) → T b → b ≡ true
-passed true t = refl
-passed false t = absurd t
-
-holds : (b : Bool) → b ≡ true → T b
-holds true e = tt
-holds false e = cc
-
 -- a sum is replied where it is an int, the code where it is none
 pub added_fits : (n : ℤ) → IsInt n → added n ≡ sum n
-added_fits n h = rw (passed (int_le (negsuc 2147483647) n) h.0.le, passed (int_le n (pos 2147483647)) h.1.le) refl
+added_fits n h = rw (int_passes n h) refl
 
 abbrev IsFitReply : Reply → Type 0
 IsFitReply (sum n) = IsInt n
 IsFitReply (code n) = IsInt n
 
-either : (n : ℤ) (low high : Bool) → int_le (negsuc 2147483647) n ≡ low → int_le n (pos 2147483647) ≡ high
-    → ((added n ≡ sum n) × IsInt n) ⊎ (added n ≡ code UNKNOWN)
-either n true true a b = inl (added_fits n (int a b), int a b)
-  where
-    int : int_le (negsuc 2147483647) n ≡ true → int_le n (pos 2147483647) ≡ true → IsInt n
-    int a b = (record { le = holds _ a }, record { le = holds _ b })
-either n true false a b = inr (rw (a, b) refl)
-either n false high a b = inr (rw a refl)
+either : (n : ℤ) (int : Bool) → is_int n ≡ int → ((added n ≡ sum n) × IsInt n) ⊎ (added n ≡ code UNKNOWN)
+either n true e = let h = int_test n e in inl (added_fits n h, h)
+either n false e = inr (rw e refl)
 
 pub added_passes : (n : ℤ) → (IsInt n → ⊥) → added n ≡ code UNKNOWN
-added_passes n h = go (either n _ _ refl refl)
+added_passes n h = go (either n _ refl)
   where
     go : ((added n ≡ sum n) × IsInt n) ⊎ (added n ≡ code UNKNOWN) → added n ≡ code UNKNOWN
     go (inl p) = absurd (h p.1)
     go (inr e) = e
 
 added_fit : (n : ℤ) → IsFitReply (added n)
-added_fit n = go (either n _ _ refl refl)
+added_fit n = go (either n _ refl)
   where
     go : ((added n ≡ sum n) × IsInt n) ⊎ (added n ≡ code UNKNOWN) → IsFitReply (added n)
     go (inl p) = subst IsFitReply (sym p.0) p.1
     go (inr e) = subst IsFitReply (sym e) (record { le = tt }, record { le = tt })
 
 with_reply : (s : Service) (id : ℕ) (r : Reply) → IsService s → id < 2 ^ 31 → IsFitReply r → IsAnswerable (response_with s id r)
-with_reply s id (sum n) h small fit = record { id = small; ret_low = record { le = tt }; ret_high = record { le = tt }; body = reply_short s n h }
-with_reply s id (code n) h small fit = record { id = small; ret_low = fit.0; ret_high = fit.1; body = lit≤ tt }
+with_reply s id (sum n) h small fit = record { id = small; ret_int = (record { le = tt }, record { le = tt }); body = reply_short s n h }
+with_reply s id (code n) h small fit = record { id = small; ret_int = fit; body = lit≤ tt }
 
 pub response_answerable : (s : Service) (id : ℕ) (n : ℤ) → IsService s → id < 2 ^ 31 → IsAnswerable (response_with s id (added n))
 response_answerable s id n h small = with_reply s id (added n) h small (added_fit n)
@@ -120,7 +105,7 @@ not_unknown : of_z w32 UNKNOWN ≡ 0 → ⊥
 not_unknown e = absurd (omega arith)
 
 pub sum_replied : (s : Service) (args : List Value) (id : ℕ) (r : Response) → IsService s → r ≡ response_of s args id → of_z w32 r.ret ≡ 0 → IsSum s args r
-sum_replied s args id r h e zero = go (either n _ _ refl refl)
+sum_replied s args id r h e zero = go (either n _ refl)
   where
     n : ℤ
     n = argument args s.left +ℤ argument args s.right
@@ -135,7 +120,7 @@ sum_replied s args id r h e zero = go (either n _ _ refl refl)
     go (inr u) = absurd (not_unknown (sym (ap (λ (x : Response). of_z w32 x.ret) (e ∙ ap (response_with s id) u)) ∙ zero))
 
 pub code_replied : (s : Service) (args : List Value) (id : ℕ) (r : Response) → IsService s → r ≡ response_of s args id → (of_z w32 r.ret ≡ 0 → ⊥) → reply_to s args ≡ code r.ret
-code_replied s args id r h e other = go (either n _ _ refl refl)
+code_replied s args id r h e other = go (either n _ refl)
   where
     n : ℤ
     n = argument args s.left +ℤ argument args s.right

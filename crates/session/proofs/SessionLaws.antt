@@ -1,10 +1,10 @@
 -- The session that a script and its interface file say: it is made exactly where the two agree.
-use Rattle.std.proofs.Common.{◌≡◌, ◌<◌, ◌^◌, ℕ, ◌+◌, ℤ, pos, negsuc, Bool, true, false, ◌&&◌, List, [], ◌∷◌, map, Option, Some, None, refl, sym, ◌∙◌, arith, inl, inr}
+use Rattle.std.proofs.Common.{◌≡◌, ℕ, ◌+◌, ℤ, Bool, true, false, ◌&&◌, List, [], ◌∷◌, map, Option, Some, None, refl, sym, ◌∙◌, inl, inr}
 use Rattle.std.specs.Prelude.{MatchOption, Result, Ok, Err, IfOk}
 use Rattle.std.specs.List.{AllByRecursion}
 use Rattle.std.specs.Str.{bytes_eq}
 use Rattle.std.specs.Bool.{Decides}
-use Rattle.std.proofs.lemmas.Bool.{and_parts, and_from, cond-true, ltb-true, lt-ltb}
+use Rattle.std.proofs.lemmas.Bool.{and_parts, and_from, cond-true}
 use Rattle.std.proofs.lemmas.Slice.Eq.{bytes_eq-Decides}
 use Rattle.std.proofs.lemmas.Option.{cond_some}
 use Rattle.tars_model.specs.declared.value.Value.{Num}
@@ -16,15 +16,17 @@ use Rattle.session.specs.declared.loaded.Rule.TheVariants.{Add}
 use Rattle.session.specs.declared.script.ScriptText.{ScriptText as ScriptStruct}
 use Rattle.session.specs.InterfaceText.{InterfaceText}
 use Rattle.session.specs.Loading.{Agree, IsParameter, IsEventOf, events_from, place_of, loaded_of}
-use Rattle.session.specs.Reading.{is_int, int_of}
+use Rattle.session.specs.Reading.{int_of}
+use Rattle.tars_model.specs.Fits.{IsInt, is_int}
+use Rattle.tars_model.proofs.Ints.{int_test, int_passes}
 use Rattle.session.specs.Reading.{EventValue, event_of, event_meant, Reads}
 use Rattle.session.specs.Reading as value
-use Rattle.session.specs.Scan.{◌>>=◌, Gives}
+use Rattle.wire_words.specs.Bind.{◌>>=◌}
+use Rattle.session.specs.Scan.{Gives}
 use Rattle.session.specs.ScriptText.{ScriptText, EventText, call, serve, work, deliver, close}
 use Rattle.session.specs.SessionSteps.{place_in, rule_in, call_with, event_in, next_number, events_in, object_in, is_about, session_in}
-use Rattle.session.specs.Sessions.{IsInt, func_of_two, schema_of_one}
+use Rattle.session.specs.Sessions.{func_of_two, schema_of_one}
 use Rattle.session.specs.Words.{number_of}
-use Rattle.std.proofs.lemmas.Int.{ints}
 use Rattle.session.proofs.Readers.{bind_some, some_is, chosen}
 
 -- ---- places
@@ -65,14 +67,6 @@ unfolding rule_in
 rule_made i left right l r = rw (place_made i left l, place_made i right r) refl
 
 -- ---- numbers
-
-int_test : (z : ℤ) → is_int z ≡ true → IsInt z
-int_test (pos n) h = let small : n < 2 ^ 31 = ltb-true n (2 ^ 31) h in (omega (arith, ints), omega (arith, ints))
-int_test (negsuc n) h = let small : n < 2 ^ 31 = ltb-true n (2 ^ 31) h in (omega (arith, ints), omega (arith, ints))
-
-int_passes : (z : ℤ) → IsInt z → is_int z ≡ true
-int_passes (pos n) h = lt-ltb n (2 ^ 31) (omega (arith, ints, h.1))
-int_passes (negsuc n) h = lt-ltb n (2 ^ 31) (omega (arith, ints, h.0))
 
 int_found : (text : List ℕ) (z : ℤ) → int_of text ≡ Some z → IsInt (number_of text) × (z ≡ number_of text)
 unfolding int_of

@@ -3,7 +3,8 @@ use Rattle.std.specs.Prelude.{ℕ, Bool, ◌&&◌, ◌||◌, not, nat_le, if◌t
 use Rattle.std.specs.Str.{bytes_eq}
 use Rattle.session.specs.declared.idl_parse.Signature.{Signature}
 use Rattle.session.specs.InterfaceText.{InterfaceText, MAX_FILE}
-use Rattle.session.specs.Scan.{◌>>=◌, Whole, Front, skip, ◌&◌, name_before}
+use Rattle.wire_words.specs.Bind.{◌>>=◌}
+use Rattle.session.specs.Scan.{Whole, Front, skip, ◌&◌, name_before}
 
 -- from the function's name to the end of the line
 unfoldable pub signature_at : Front (List ℕ × (List ℕ × List ℕ))

@@ -149,6 +149,49 @@ IsReplied l got row (Code link packet code) = (link ≡ NODE) × (code ≢ pos 0
 IsReplied l got row Closed = Unit {0}
 IsReplied l got row (Refused why) = Unit {0}
 
+-- The parts of a report. Rows and scripted calls go by their places from 0.
+
+abbrev pub IsRowAt : List Row → ℕ → Row → Type 0
+IsRowAt rows k row = slice_get rows k ≡ Some row
+
+abbrev pub IsCallAt : Loaded → ℕ → Scripted → Type 0
+IsCallAt l k call = slice_get (scripted l.events) k ≡ Some call
+
+-- which calls are refused, and what is missing of their rows
+pub record AreRefused (l : Loaded) (rows : List Row) : Type 0 where
+  -- a call is refused as full exactly where as many as the width were sent before it
+  pub full : (k : ℕ) (row : Row) → IsRowAt rows k row → (row.end ≡ Refused refusal.Full) ↔ (WIDTH ≤ sent_before rows k)
+  -- a call is refused as closed exactly where a close came before it and it is not full
+  pub late :
+      (k : ℕ) (row : Row) (call : Scripted) → IsRowAt rows k row → IsCallAt l k call
+      → (row.end ≡ Refused (refusal.Closed 0)) ↔ ((call.closed ≡ true) × (sent_before rows k < WIDTH))
+  -- a call has no id exactly where it is refused
+  pub unsent : (k : ℕ) (row : Row) → IsRowAt rows k row → (row.id ≡ None) ↔ IsRefusal row.end
+  -- the one node is picked, but not where the line is full
+  pub picks : (k : ℕ) (row : Row) → IsRowAt rows k row → row.pick ≡ pick_of row.end
+
+-- what was sent
+pub record AreSent (l : Loaded) (rows : List Row) (sent : List SentRow) : Type 0 where
+  -- the frames are those of the calls with an id, in order
+  pub calls : map (λ (frame : SentRow). frame.call) sent ≡ map (λ (row : Row). row.call) (filter was_sent rows)
+  -- each call with an id was sent as its request, in the place of its id
+  pub requests :
+      (k : ℕ) (row : Row) (call : Scripted) (id : CallId) → IsRowAt rows k row → IsCallAt l k call
+      → row.id ≡ Some id → IsSentAs l sent call.spec id
+
+-- what was replied
+pub record AreReplied (l : Loaded) (rows : List Row) (got : List GotRow) : Type 0 where
+  -- each reply is what the rule gives for the arguments of its call
+  pub rule :
+      (k : ℕ) (row : Row) (call : Scripted) (packet : ℕ) → IsRowAt rows k row → IsCallAt l k call
+      → packet_of row.end ≡ Some packet → row.end ≡ outcome packet (reply_to (service_of l) call.spec.args)
+  -- each reply is what a packet says that came for its call
+  pub packets : (k : ℕ) (row : Row) → IsRowAt rows k row → IsReplied l got row row.end
+  -- each packet that settled a call is named by the row with its id
+  pub used :
+      (packet : ℕ) (frame : List ℕ) (id : CallId) → IsUsedPacket got packet frame id
+      → (k : ℕ) × (row : Row) × IsRowAt rows k row × (row.id ≡ Some id) × (packet_of row.end ≡ Some packet)
+
 -- The report of a script.
 
 pub record IsLegal (l : Loaded) (r : Report) : Type 0 where
@@ -161,37 +204,12 @@ pub record IsLegal (l : Loaded) (r : Report) : Type 0 where
   pub rows : map heading_of r.calls ≡ map heading_of_call (filter_map call_of l.events)
   -- no id stands twice
   pub ids : RiseAbove 0 (ids_of r.calls)
-  -- a call is refused as full exactly where as many as the width were sent before it
-  pub full :
-      (k : ℕ) (row : Row) → slice_get r.calls k ≡ Some row
-      → (row.end ≡ Refused refusal.Full) ↔ (WIDTH ≤ sent_before r.calls k)
-  -- a call is refused as closed exactly where a close came before it and it is not full
-  pub late :
-      (k : ℕ) (row : Row) (call : Scripted) → slice_get r.calls k ≡ Some row → slice_get (scripted l.events) k ≡ Some call
-      → (row.end ≡ Refused (refusal.Closed 0)) ↔ ((call.closed ≡ true) × (sent_before r.calls k < WIDTH))
-  -- a call has no id exactly where it is refused
-  pub unsent : (k : ℕ) (row : Row) → slice_get r.calls k ≡ Some row → (row.id ≡ None) ↔ IsRefusal row.end
-  -- the one node is picked, but not where the line is full
-  pub picks : (k : ℕ) (row : Row) → slice_get r.calls k ≡ Some row → row.pick ≡ pick_of row.end
-  -- the frames that were sent are those of the calls with an id, in order
-  pub sends : map (λ (sent : SentRow). sent.call) link.sent ≡ map (λ (row : Row). row.call) (filter was_sent r.calls)
-  -- each call with an id was sent as its request, in the place of its id
-  pub requests :
-      (k : ℕ) (row : Row) (call : Scripted) (id : CallId) → slice_get r.calls k ≡ Some row → slice_get (scripted l.events) k ≡ Some call
-      → row.id ≡ Some id → IsSentAs l link.sent call.spec id
-  -- each reply is what the rule gives for the arguments of its call
-  pub rule :
-      (k : ℕ) (row : Row) (call : Scripted) (packet : ℕ) → slice_get r.calls k ≡ Some row → slice_get (scripted l.events) k ≡ Some call
-      → packet_of row.end ≡ Some packet → row.end ≡ outcome packet (reply_to (service_of l) call.spec.args)
-  -- each reply is what a packet says that came for its call
-  pub replies : (k : ℕ) (row : Row) → slice_get r.calls k ≡ Some row → IsReplied l link.got row row.end
+  pub refusals : AreRefused l r.calls
+  pub sends : AreSent l r.calls link.sent
+  pub replies : AreReplied l r.calls link.got
   -- a call ends by the close exactly where it was sent and no packet settled it
   pub closed :
-      (k : ℕ) (row : Row) → slice_get r.calls k ≡ Some row
+      (k : ℕ) (row : Row) → IsRowAt r.calls k row
       → (row.end ≡ Closed) ↔ ((id : CallId) × (row.id ≡ Some id) × (IsUsedId link.got id → ⊥))
-  -- each packet that settled a call is named by the row with its id
-  pub used :
-      (packet : ℕ) (frame : List ℕ) (id : CallId) → IsUsedPacket link.got packet frame id
-      → (k : ℕ) × (row : Row) × (slice_get r.calls k ≡ Some row) × (row.id ≡ Some id) × (packet_of row.end ≡ Some packet)
   -- each pick is reported in the order of the calls, and then each reply
   pub routes : r.routes ≡ filter_map picked_of r.calls ++ filter_map reported_of r.calls

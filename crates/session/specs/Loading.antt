@@ -11,7 +11,8 @@ use Rattle.session.specs.declared.loaded.Loaded.{Loaded}
 use Rattle.session.specs.declared.loaded.Rule.TheVariants.{Add}
 use Rattle.session.specs.InterfaceText.{InterfaceText, IsInterfaceText}
 use Rattle.session.specs.ScriptText.{ScriptText, IsScriptText, EventText, call, serve, work, deliver, close, object_id}
-use Rattle.session.specs.Sessions.{IsInt, func_of_two, schema_of_one}
+use Rattle.session.specs.Sessions.{func_of_two, schema_of_one}
+use Rattle.tars_model.specs.Fits.{IsInt}
 use Rattle.session.specs.Words.{number_of}
 
 -- The lines of a refusal: the refused file's name, what was wrong, a number and a place.

@@ -3,7 +3,8 @@ use Rattle.std.specs.Prelude.{◌^◌, ℕ, ◌&&◌, nat_le, nat_lt, if◌then�
 use Rattle.std.specs.Str.Parse.{digits_value}
 use Rattle.session.specs.Words.{is_natural, is_number}
 use Rattle.session.specs.Reading.{int_of}
-use Rattle.session.specs.Scan.{◌>>=◌, Whole}
+use Rattle.wire_words.specs.Bind.{◌>>=◌}
+use Rattle.session.specs.Scan.{Whole}
 
 -- a natural number below 2 ^ 32
 unfoldable pub natural : Whole ℕ

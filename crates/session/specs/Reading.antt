@@ -1,6 +1,6 @@
 -- What the structs that the readers return hold, and what a script's text means
 -- (`specs/InterfaceText.antt`, `specs/ScriptText.antt`).
-use Rattle.std.specs.Prelude.{◌≡◌, ◌^◌, ℕ, Bool, nat_lt, if◌then◌else◌, ℤ, pos, negsuc, List, map, Option, Some, None}
+use Rattle.std.specs.Prelude.{◌≡◌, ℕ, if◌then◌else◌, ℤ, List, map, Option, Some, None}
 use Rattle.std.specs.Str.Parse.{digits_value}
 use Rattle.session.specs.declared.idl_parse.InterfaceText.{InterfaceText as InterfaceStruct}
 use Rattle.session.specs.declared.script.event.EventText.{EventText as EventEnum}
@@ -10,15 +10,11 @@ use Rattle.session.specs.InterfaceText.{InterfaceText}
 use Rattle.session.specs.ScriptText.{EventText, ScriptText, object_id}
 use Rattle.session.specs.ScriptText as script
 use Rattle.session.specs.Words.{number_of}
+use Rattle.tars_model.specs.Fits.{is_int}
 
 -- the names that the struct of an interface file holds
 abbrev pub names_of : InterfaceStruct → InterfaceText
 names_of r = record { module_name = r.module.now; interface = r.interface.now; func = r.func.now; first = r.first.now; second = r.second.now }
-
--- whether an int holds the number
-abbrev pub is_int : ℤ → Bool
-is_int (pos n) = nat_lt n (2 ^ 31)
-is_int (negsuc n) = nat_lt n (2 ^ 31)
 
 -- the int that a number's text means, if it means one
 unfoldable pub int_of : List ℕ → Option ℤ

@@ -1,5 +1,6 @@
 -- Request and response packets (docs/PROTOCOL.md, "Packets"; RequestF.tars of TarsCpp).
-use Rattle.std.specs.Prelude.{◌<◌, ◌≤◌, ◌≤ℤ◌, ◌^◌, length, negsuc, ℕ, Bool, true, false, pos, List, [], ◌∷◌, codes}
+use Rattle.std.specs.Prelude.{◌<◌, ◌≤◌, ◌^◌, length, ℕ, Bool, true, false, pos, List, [], ◌∷◌, codes}
+use Rattle.tars_model.specs.Fits.{IsInt}
 use Rattle.tars_model.specs.declared.member.Member.{Member}
 use Rattle.tars_model.specs.declared.ty.Ty.{Ty, Byte, Short, Int, Text as TextTy, Vector, Map as MapTy}
 use Rattle.tars_model.specs.declared.value.Value.{Value, Num, Text, Blob, Map}
@@ -60,8 +61,7 @@ pub record IsSendable (r : Request) : Type 0 where
 
 pub record IsAnswerable (r : Response) : Type 0 where
   pub id : r.id < 2 ^ 31
-  pub ret_low : negsuc 2147483647 ≤ℤ r.ret
-  pub ret_high : r.ret ≤ℤ pos 2147483647
+  pub ret_int : IsInt r.ret
   pub body : length r.body ≤ 4096
 
 -- version 1, a normal call, message type 0, no context and no status

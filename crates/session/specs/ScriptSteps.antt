@@ -11,7 +11,8 @@ use Rattle.session.specs.Numbers.{natural_within, number}
 use Rattle.session.specs.Reading.{EventValue, event_of, call, serve, work, deliver, close}
 use Rattle.session.specs.InterfaceText.{MAX_FILE}
 use Rattle.session.specs.ScriptText.{MAX_LINE, MAX_CALLS, is_part_byte, is_host_byte}
-use Rattle.session.specs.Scan.{◌>>=◌, Whole, Front, tested, skip, before, within, ◌&◌, ◌&>◌, name, name_before, utf8}
+use Rattle.wire_words.specs.Bind.{◌>>=◌}
+use Rattle.session.specs.Scan.{Whole, Front, tested, skip, before, within, ◌&◌, ◌&>◌, name, name_before, utf8}
 
 -- the line in front, without its line feed; the last one may have none
 unfoldable pub line_at : Front (List ℕ)

@@ -1,5 +1,5 @@
 -- What the calls of a script go to, and what is asked and answered (docs/SCRIPTS.md, "Rules").
-use Rattle.std.specs.Prelude.{◌≡◌, ◌<◌, ◌≤◌, ◌^◌, length, ℕ, ◌&&◌, int_le, if◌then◌else◌, ℤ, pos, negsuc, ◌+ℤ◌, List, [], ◌∷◌, slice_index_or}
+use Rattle.std.specs.Prelude.{◌≡◌, ◌<◌, ◌≤◌, ◌^◌, length, ℕ, if◌then◌else◌, ℤ, pos, negsuc, ◌+ℤ◌, List, [], ◌∷◌, slice_index_or}
 use Rattle.std.specs.List.{AllByRecursion}
 use Rattle.tars_model.specs.declared.func_desc.FuncDesc.{FuncDesc}
 use Rattle.tars_model.specs.declared.interface_desc.InterfaceDesc.{InterfaceDesc}
@@ -12,7 +12,8 @@ use Rattle.tars_codec.specs.Written.{written}
 use Rattle.session.specs.declared.rpc_packet.request.Request.{Request}
 use Rattle.session.specs.declared.rpc_packet.response.Response.{Response}
 use Rattle.session.specs.RpcPackets.{request_members, response_members, request_frame}
-use Rattle.session.specs.Sessions.{func_of_two, IsInt}
+use Rattle.session.specs.Sessions.{func_of_two}
+use Rattle.tars_model.specs.Fits.{IsInt, is_int}
 use Rattle.session.specs.declared.loaded.Endpoint.{Endpoint}
 use Rattle.session.specs.declared.loaded.Event.{Event}
 use Rattle.session.specs.declared.loaded.Event.TheVariants.{Call}
@@ -72,7 +73,7 @@ abbrev pub argument : List Value → ℕ → ℤ
 argument args k = number_of_layer (out-Value (slice_index_or args k (Num (pos 0))))
 
 abbrev pub added : ℤ → Reply
-added n = if int_le (negsuc 2147483647) n && int_le n (pos 2147483647) then sum n else code UNKNOWN
+added n = if is_int n then sum n else code UNKNOWN
 
 abbrev pub reply_to : Service → List Value → Reply
 reply_to s args = added (argument args s.left +ℤ argument args s.right)

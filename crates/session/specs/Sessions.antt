@@ -1,5 +1,5 @@
 -- What a loaded script is about (docs/SCRIPTS.md).
-use Rattle.std.specs.Prelude.{ℕ, false, ℤ, pos, negsuc, ◌≤ℤ◌, Some, List, [], ◌∷◌}
+use Rattle.std.specs.Prelude.{ℕ, false, Some, List, [], ◌∷◌}
 use Rattle.tars_model.specs.declared.func_desc.FuncDesc.{FuncDesc}
 use Rattle.tars_model.specs.declared.func_desc.Param.{Param}
 use Rattle.tars_model.specs.declared.schema.Schema.{Schema}
@@ -21,7 +21,3 @@ schema_of_one module_name interface func =
       interfaces = record { «module» = module_name; name = interface; funcs = func ∷ [] } ∷ [];
       order = Interface 0 ∷ [];
     }
-
--- an int
-abbrev pub IsInt : ℤ → Type 0
-IsInt n = (negsuc 2147483647 ≤ℤ n) × (n ≤ℤ pos 2147483647)

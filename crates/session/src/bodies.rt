@@ -1,9 +1,8 @@
 //! Values as the bodies of packets and calls, and back.
 
-ghost use Rattle.std.specs.Prelude.{◌≡◌, List, IfOk};
-ghost use Rattle.tars_model.specs.declared.value.Value.{Value as AValue};
+ghost use Rattle.std.specs.Prelude.{◌≡◌, IfOk};
 ghost use Rattle.tars_model.specs.Fits.{FitMembers, HaveRisingTags};
-ghost use Rattle.tars_codec.specs.Written.{written};
+ghost use Rattle.tars_codec.specs.Written.{written, WereWritten, ReadsWritten};
 
 use bytes::BytesMut;
 use std::alloc::{AllocError, Global};
@@ -32,8 +31,8 @@ pub(crate) fn read_body(
     body: &[u8],
 ) -> Result<Listed<Value>, AllocError>
     requires rising { HaveRisingTags members.now }
-    requires written { (values : List AValue) × FitMembers members.now values × (body.now ≡ written members.now values) }
-    ensures { (values : List AValue) → FitMembers members.now values → body.now ≡ written members.now values → IfOk result (λ read. read ≡ values) }
+    requires written { WereWritten members.now body.now }
+    ensures { ReadsWritten members.now body.now result }
 {
     let schema = Schema::empty(alloc);
     match decode(alloc, &schema, members, body) {

@@ -92,6 +92,3 @@ pub fn read_interface(text: &[u8]) -> Option<InterfaceText<'_>>
 {
     read_file(text)
 }
-
-#[cfg(test)]
-mod tests;

@@ -3,8 +3,6 @@
 mod calls;
 mod lines;
 mod links;
-#[cfg(test)]
-mod tests;
 mod words;
 
 ghost use Rattle.std.specs.Prelude.{◌≡◌, IfOk};

@@ -93,6 +93,3 @@ pub fn read_script(alloc: Global, text: &[u8]) -> Result<Option<ScriptText<'_>>,
 {
     read_file(alloc, text)
 }
-
-#[cfg(test)]
-mod tests;

@@ -1,7 +1,7 @@
 //! The servant: what it replies to a call's arguments, and the response that carries it.
 
 ghost use Rattle.std.specs.Prelude.{◌≡◌, ◌<◌, ◌≤◌, ◌^◌, ℕ, ℤ, pos, ◌+ℤ◌, List as Listed, IfOk};
-ghost use Rattle.session.specs.Sessions.{IsInt};
+ghost use Rattle.tars_model.specs.Fits.{IsInt};
 ghost use Rattle.tars_model.specs.declared.value.Value.{Value as AValue};
 ghost use Rattle.tars_codec.specs.Written.{written};
 ghost use Rattle.session.specs.RpcPackets.{response_frame};

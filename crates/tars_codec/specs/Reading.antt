@@ -14,11 +14,7 @@ use Rattle.tars_codec.specs.declared.wire_type.WireType.TheVariants as wire
 use Rattle.tars_codec.specs.declared.read_error.ReadError.{ReadError}
 use Rattle.tars_codec.specs.declared.read_error.ReadError.TheVariants as errors
 use Rattle.tars_codec.specs.WireType.{type_of}
-
-infixl 10 ◌>>=◌
-abbrev pub ◌>>=◌ : {A B : Type 0} → Option A → (A → Option B) → Option B
-None >>= f = None
-(Some x) >>= f = f x
+use Rattle.wire_words.specs.Bind.{◌>>=◌}
 
 -- what a function returned, seen by view, is what reading gives, unless memory ran out
 abbrev pub Fails : {Y : Type 0} → ReadError → Option Y → Type 0

@@ -1,9 +1,10 @@
 -- What is written for values (docs/PROTOCOL.md, "Writing").
-use Rattle.std.specs.Prelude.{ℕ, nat_le, if◌then◌else◌, List, [], ◌∷◌, length, map as map_list}
+use Rattle.std.specs.Prelude.{◌≡◌, ℕ, nat_le, if◌then◌else◌, List, [], ◌∷◌, length, map as map_list, Result, IfOk}
 use Rattle.tars_model.specs.declared.value.Value.{Value, fold-Value}
 use Rattle.tars_model.specs.declared.value.Value.TheOpen as value
 use Rattle.tars_model.specs.declared.value.Pair.{Pair, Pair-F, fold-Pair}
 use Rattle.tars_model.specs.declared.member.Member.{Member}
+use Rattle.tars_model.specs.Fits.{FitMembers}
 use Rattle.wire_words.specs.Tree.{WireValue, whole, string1, string4, simple_list, map, WirePairs, no_pairs, pair, WireFields, no_fields, field}
 use Rattle.wire_words.specs.Spelling.{shortest, spelled_fields}
 
@@ -46,3 +47,12 @@ fields_of (m ∷ ms) (v ∷ vs) = field m.tag (wire_value v) (fields_of ms vs)
 -- the one spelling of values under members
 unfoldable pub written : List Member → List Value → List ℕ
 written members values = spelled_fields (fields_of members values)
+
+-- bytes were written for some values under the members
+abbrev pub WereWritten : List Member → List ℕ → Type 0
+WereWritten members bytes = (values : List Value) × FitMembers members values × (bytes ≡ written members values)
+
+-- the values that bytes were written for are what is read, unless there is an error
+abbrev pub ReadsWritten : {E : Type 0} → List Member → List ℕ → Result (List Value) E → Type 0
+ReadsWritten members bytes result =
+    (values : List Value) → FitMembers members values → bytes ≡ written members values → IfOk result (λ read. read ≡ values)

@@ -1,7 +1,7 @@
-ghost use Rattle.std.specs.Prelude.{◌≡◌, IfOk, List};
+ghost use Rattle.std.specs.Prelude.{◌≡◌};
 ghost use Rattle.tars_model.specs.declared.ty.Ty.{out-Ty};
-ghost use Rattle.tars_model.specs.Fits.{FitMembers, HaveRisingTags};
-ghost use Rattle.tars_codec.specs.Written.{written};
+ghost use Rattle.tars_model.specs.Fits.{HaveRisingTags};
+ghost use Rattle.tars_codec.specs.Written.{WereWritten, ReadsWritten};
 ghost use Rattle.tars_codec.specs.Reading.{Gives, text_field_at, pair_at, pairs_at, map_at, value_at, member_at, values_at, body_at};
 
 mod fields;
@@ -147,8 +147,8 @@ pub fn decode(
     bytes: &[u8],
 ) -> Result<Listed<Value>, Refuse>
     requires rising { HaveRisingTags members.now }
-    requires written { (values : List Value) × FitMembers members.now values × (bytes.now ≡ written members.now values) }
-    ensures { (values : List Value) → FitMembers members.now values → bytes.now ≡ written members.now values → IfOk result (λ read. read ≡ values) }
+    requires written { WereWritten members.now bytes.now }
+    ensures { ReadsWritten members.now bytes.now result }
 {
     match read_body(alloc, members, bytes) {
         Ok(values) => Ok(values),

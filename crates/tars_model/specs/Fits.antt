@@ -1,5 +1,5 @@
 -- The values of a type (docs/PROTOCOL.md, "Values").
-use Rattle.std.specs.Prelude.{◌≡◌, ◌<◌, ◌^◌, ℕ, ◌≤ℤ◌, pos, negsuc, List, [], ◌∷◌, length}
+use Rattle.std.specs.Prelude.{◌≡◌, ◌<◌, ◌^◌, ℕ, Bool, nat_lt, ℤ, ◌≤ℤ◌, pos, negsuc, List, [], ◌∷◌, length}
 use Rattle.std.specs.Cmp.Lexicographic.{slice_cmp}
 use Rattle.std.specs.Ordering.{nat_cmp}
 use Rattle.std.specs.declared.cmp.Ordering.TheVariants.{Less}
@@ -43,10 +43,25 @@ AreTextPairs _ _ = ⊥
 abbrev pub IsTextMap : List Pair → Type 0
 IsTextMap pairs = (length pairs < 2 ^ 31) × ((keys : List (List ℕ)) × AreTextPairs pairs keys × AreRising keys)
 
+-- the whole numbers of each type
+abbrev pub IsByte : ℤ → Type 0
+IsByte n = (negsuc 127 ≤ℤ n) × (n ≤ℤ pos 127)
+
+abbrev pub IsShort : ℤ → Type 0
+IsShort n = (negsuc 32767 ≤ℤ n) × (n ≤ℤ pos 32767)
+
+abbrev pub IsInt : ℤ → Type 0
+IsInt n = (negsuc 2147483647 ≤ℤ n) × (n ≤ℤ pos 2147483647)
+
+-- whether a whole number is an int
+abbrev pub is_int : ℤ → Bool
+is_int (pos n) = nat_lt n (2 ^ 31)
+is_int (negsuc n) = nat_lt n (2 ^ 31)
+
 abbrev pub FitsLayer : TyLayer → ValueLayer → Type 0
-FitsLayer ty.Byte (value.Num n) = (negsuc 127 ≤ℤ n) × (n ≤ℤ pos 127)
-FitsLayer ty.Short (value.Num n) = (negsuc 32767 ≤ℤ n) × (n ≤ℤ pos 32767)
-FitsLayer ty.Int (value.Num n) = (negsuc 2147483647 ≤ℤ n) × (n ≤ℤ pos 2147483647)
+FitsLayer ty.Byte (value.Num n) = IsByte n
+FitsLayer ty.Short (value.Num n) = IsShort n
+FitsLayer ty.Int (value.Num n) = IsInt n
 FitsLayer ty.Text (value.Text bytes) = length bytes < 2 ^ 32
 FitsLayer (ty.Vector of) (value.Blob bytes) = (out-Ty of ≡ ty.Byte) × (length bytes < 2 ^ 31)
 FitsLayer (ty.Map of to) (value.Map pairs) = (out-Ty of ≡ ty.Text) × (out-Ty to ≡ ty.Text) × IsTextMap pairs

@@ -2,6 +2,7 @@
 //! the objects of the system, and the exit status.
 #![tactic(auto)]
 
+mod opener;
 mod real_files;
 mod real_sink;
 mod run;
@@ -9,6 +10,7 @@ mod run;
 mod tests;
 mod words;
 
+use opener::System;
 use real_files::RealFiles;
 use real_sink::RealSink;
 use run::run;
@@ -28,7 +30,7 @@ fn run_words(rt: &HostRuntime) -> Status {
     let Ok(words) = args.skip(1).collect::<Vec<String>>(alloc) else {
         return Status::Memory;
     };
-    let mut files = RealFiles::new(rt);
+    let mut files = RealFiles::new(System::new(rt));
     let mut out = RealSink::new(rt.stdout());
     run(alloc, &words, &mut files, &mut out)
 }

@@ -1,42 +1,60 @@
-ghost use Rattle.std.specs.Prelude.{◌≡◌, ℕ, None};
+ghost use Rattle.std.specs.Prelude.{◌≡◌, ◌≢◌, ◌≤◌, ℕ, Ok, Err, IfOk, IfErr, IfSome, take, vec_len};
+ghost use Rattle.std.specs.IoError.{error_kind};
+ghost use Rattle.tars_base.specs.Causes.{HasCauseOf};
+ghost use Rattle.tars_base.specs.Contents.{IsFrontOfFile};
 
+use crate::opener::Opener;
 use std::alloc::Global;
-use std::fs::File;
 use std::io;
 use std::io::{ErrorKind, Read};
 use tars_base::{Files, ReadFault};
 
-/// The files of the system. What they hold is told to no contract.
+/// The files of an opener. Their faults are counted here.
 #[derive(Drop)]
-pub struct RealFiles<'a> {
-    rt: &'a HostRuntime,
+pub struct RealFiles<O> {
+    opener: O,
     fault_count: u64,
 }
 
-impl<'a> RealFiles<'a> {
-    pub fn new(rt: &'a HostRuntime) -> RealFiles<'a> {
-        RealFiles { rt, fault_count: 0 }
-    }
-
-    fn read_front(&self, alloc: Global, name: &str, most: usize) -> io::Result<Vec<u8>> {
-        let file = File::open(self.rt, name)?;
-        let mut bytes = Vec::new(alloc);
-        file.take(most as u64).read_to_end(&mut bytes)?;
-        Ok(bytes)
-    }
+/// The first `most` bytes that a source has left, or all of them if it has fewer.
+fn read_front<R: Read + Drop>(alloc: Global, source: R, most: usize) -> io::Result<Vec<u8>>
+    ensures bytes { IfOk result (λ bytes. IfSome (R.remaining source) (λ left. bytes.items ≡ take most left)) }
+    ensures within { IfOk result (λ bytes. vec_len bytes ≤ most) }
+{
+    let mut bytes = Vec::new(alloc);
+    source.take(most as u64).read_to_end(&mut bytes)?;
+    bytes.truncate(most);
+    Ok(bytes)
 }
 
-impl<'a> Files for RealFiles<'a> {
-    ghost contents = { λ _. None };
+impl<O: Opener> RealFiles<O> {
+    pub fn new(opener: O) -> RealFiles<O> {
+        RealFiles {
+            opener,
+            fault_count: 0,
+        }
+    }
 
-    ghost faults = { λ files. files.fault_count };
+    fn open_and_read(&self, alloc: Global, name: &str, most: usize) -> io::Result<Vec<u8>>
+        ensures bytes { IfOk result
+            (λ bytes. IsFrontOfFile (O.contents self.now.opener) name.now most bytes.items) }
+        ensures within { IfOk result (λ bytes. vec_len bytes ≤ most) }
+    {
+        let source = self.opener.open(name)?;
+        read_front(alloc, source, most)
+    }
 
-    fn read(&mut self, alloc: Global, name: &str, most: usize) -> Result<Vec<u8>, ReadFault> {
-        match self.read_front(alloc, name, most) {
-            Ok(mut bytes) => {
-                bytes.truncate(most);
-                Ok(bytes)
-            }
+    /// What a read gives to the caller. One that failed is counted; want of memory is no fault of the
+    /// files.
+    fn counted(&mut self, read: io::Result<Vec<u8>>) -> Result<Vec<u8>, ReadFault>
+        ensures ok { IfOk read (λ bytes. result ≡ Ok bytes) }
+        ensures memory { IfErr read (λ e. error_kind e ≡ ErrorKind.OutOfMemory → result ≡ Err ReadFault.Memory) }
+        ensures failed { IfErr read (λ e. error_kind e ≢ ErrorKind.OutOfMemory → result ≡ Err ReadFault.Failed) }
+        ensures cause { HasCauseOf ReadFault.Failed self.old.fault_count self.new.fault_count result }
+        ensures same { self.new.opener ≡ self.old.opener }
+    {
+        match read {
+            Ok(bytes) => Ok(bytes),
             Err(error) if error.kind() == ErrorKind::OutOfMemory => Err(ReadFault::Memory),
             Err(_) => {
                 self.fault_count = self.fault_count.saturating_add(1);
@@ -46,9 +64,21 @@ impl<'a> Files for RealFiles<'a> {
     }
 }
 
+impl<O: Opener> Files for RealFiles<O> {
+    ghost contents = { λ files. O.contents files.opener };
+
+    ghost faults = { λ files. files.fault_count };
+
+    fn read(&mut self, alloc: Global, name: &str, most: usize) -> Result<Vec<u8>, ReadFault> {
+        let read = self.open_and_read(alloc, name, most);
+        self.counted(read)
+    }
+}
+
 #[cfg(test)]
 mod tests {
     use super::*;
+    use crate::opener::System;
     use std::fs;
     use std::test::Fail;
 
@@ -57,7 +87,7 @@ mod tests {
         let alloc = rt.alloc();
         let path = "real_files_test.txt";
         fs::write(&rt, path, "module M")?;
-        let mut files = RealFiles::new(&rt);
+        let mut files = RealFiles::new(System::new(&rt));
         let cases: [(&str, usize, Result<&[u8], ReadFault>); 3] = [
             (path, 6, Ok(b"module")),
             (path, 99, Ok(b"module M")),

@@ -1,17 +1,21 @@
-ghost use Rattle.std.specs.Prelude.{None};
+ghost use Rattle.std.specs.Prelude.{◌≡◌};
 
-use std::io::{Stdout, Write};
+use std::io::Write;
 use tars_base::{Failed, Sink};
 
-/// Standard output. What it holds is told to no contract.
+/// A writer of the system as a sink. Standard output tells no contract what it holds; a writer that
+/// does is held to it.
 #[derive(Drop)]
-pub struct RealSink {
-    out: Stdout,
+pub struct RealSink<W> {
+    out: W,
     fault_count: u64,
 }
 
-impl RealSink {
-    pub fn new(out: Stdout) -> RealSink {
+impl<W: Write> RealSink<W> {
+    pub fn new(out: W) -> RealSink<W>
+        ensures out { result.out ≡ out }
+        ensures no_faults { result.fault_count ≡ 0 }
+    {
         RealSink {
             out,
             fault_count: 0,
@@ -19,8 +23,8 @@ impl RealSink {
     }
 }
 
-impl Sink for RealSink {
-    ghost written = { λ _. None };
+impl<W: Write> Sink for RealSink<W> {
+    ghost written = { λ sink. W.contents sink.out };
 
     ghost faults = { λ sink. sink.fault_count };
 

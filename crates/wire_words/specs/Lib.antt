@@ -1,3 +1,4 @@
+pub mod Bind
 pub mod Tree
 pub mod Spelling
 pub mod Packets

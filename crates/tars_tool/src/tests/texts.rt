@@ -1,6 +1,6 @@
 //! Texts that are accepted and texts that are refused, as a run of the program tells.
 
-use super::{CALC, FIRST, REPORT, files_of, sink_of, words_of};
+use super::{CALC, FIRST, HEADER, REPORT, files_of, sink_of, words_of};
 use crate::run::run;
 use std::alloc::Global;
 use std::test::Fail;
@@ -24,10 +24,15 @@ fn a_script_of_another_form_is_refused(rt: HostRuntime) -> Result<(), Fail> {
     let cases = [
         ("client calc.tars\n", ""),
         ("client calc.tars", "client  calc.tars"),
+        ("client calc.tars", "client calc.tars "),
+        ("client calc.tars", "client "),
+        ("client calc.tars", "# client calc.tars"),
         ("interface M::Calc", "interface M::struct"),
         ("interface M::Calc", "interface M.Calc"),
+        ("interface M::Calc", "interface M:Calc"),
         ("M::Calc", "M::abcdefghijklmnopqrstuvwxyzABCDEFG"),
         ("A.B.C@tcp", "A.B@tcp"),
+        ("A.B.C@tcp", "A.B.C.D@tcp"),
         ("A.B.C@tcp", "A.B.C@udp"),
         ("-h 127.0.0.1", "-h 127.0.0.1_"),
         ("-h 127.0.0.1", "-h"),
@@ -36,12 +41,16 @@ fn a_script_of_another_form_is_refused(rt: HostRuntime) -> Result<(), Fail> {
         ("-p 9001", "-p 09001"),
         ("-t 3000", "-t 0"),
         ("-t 3000", "-t 3600001"),
+        ("-t 3000", "-t 4294967297"),
         ("servant add add a b", "servant add sub a b"),
         ("servant add add a b", "servant add add a"),
         ("call 1 add 2 3", "call 2 add 2 3"),
         ("call 1 add 2 3", "call 1 add 2"),
         ("call 1 add 2 3", "call 1 add 02 3"),
         ("call 1 add 2 3", "call 1 add -0 3"),
+        ("call 1 add 2 3", "call 1 add +2 3"),
+        ("call 1 add 2 3", "call 1 add 2 3 4"),
+        ("call 1 add 2 3", "add 2 3"),
         ("serve 1", "serve 2"),
         ("serve 1", "serve"),
         ("work 1", "work 1 "),
@@ -66,6 +75,10 @@ fn an_interface_file_of_another_form_is_refused(rt: HostRuntime) -> Result<(), F
     let alloc = rt.alloc();
     // what stands in the interface file, and what is put in its place
     let cases = [
+        (CALC, ""),
+        (CALC, "\n"),
+        ("module M", "module"),
+        ("module M", " module M"),
         ("module M", "module  M"),
         ("module M", "module M2"),
         ("module M", "module interface"),
@@ -78,6 +91,7 @@ fn an_interface_file_of_another_form_is_refused(rt: HostRuntime) -> Result<(), F
         ("); }; };", ") }; };"),
         ("}; };\n", "}; }"),
         ("}; };\n", "}; };\n\n"),
+        ("}; };\n", "}; }; "),
     ];
     for (old, new) in cases {
         let interface = CALC.replace(alloc, old, new)?;
@@ -174,5 +188,51 @@ fn a_sum_that_is_no_int_is_a_code(rt: HostRuntime) -> Result<(), Fail> {
 done calls 1 two-way 1 one-way 0
 "
     );
+    Ok(())
+}
+
+/// A script of a client's file with so many letters in its name.
+fn with_long_name(alloc: Global, letters: usize) -> Result<String, Memory> {
+    let name = String::from_utf8(vec![in alloc; b'a'; letters]?).unwrap_or(String::new(alloc));
+    FIRST.replace(alloc, "calc.tars", name.as_str())
+}
+
+/// A script of so many calls of a function that the interface does not have.
+fn with_calls(alloc: Global, calls: usize) -> Result<String, Memory> {
+    let mut script = String::from_str(alloc, HEADER)?;
+    for _ in 0..calls {
+        script.push_str("call 1 sum 2 3\n")?;
+    }
+    Ok(script)
+}
+
+#[test]
+fn a_line_and_the_calls_have_a_limit(rt: HostRuntime) -> Result<(), Fail> {
+    let alloc = rt.alloc();
+    // what comes behind the script's form: a file that is not there, and a name that is unknown
+    let cases = [
+        (with_long_name(alloc, 4089)?, Status::ReadFault, ""),
+        (
+            with_long_name(alloc, 4090)?,
+            Status::Refused,
+            "refused first.plan script 1 0\n",
+        ),
+        (
+            with_calls(alloc, 4096)?,
+            Status::Refused,
+            "refused first.plan script 7 0\n",
+        ),
+        (
+            with_calls(alloc, 4097)?,
+            Status::Refused,
+            "refused first.plan script 1 0\n",
+        ),
+    ];
+    for (script, wanted, line) in &cases {
+        let (status, text) = ran(alloc, script.as_str(), CALC)?;
+        let len = script.len();
+        assert_eq!(rt; status, *wanted, "at {len} bytes");
+        assert_eq!(rt; text.as_str(), *line, "at {len} bytes");
+    }
     Ok(())
 }

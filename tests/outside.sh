@@ -1,0 +1,159 @@
+#!/usr/bin/env bash
+# Runs the built program where its surroundings are bad: files that can't be read, files at and past their
+# longest size, bytes that are no text, a standard output that is closed or full. Each case has the exit
+# status, the standard output and the standard error that docs/SCRIPTS.md states.
+set -u
+top=$(cd "$(dirname "$0")/.." && pwd)
+program="$top/crates/tars_tool/out/tars_tool"
+work=$(mktemp -d)
+trap 'rm -rf "$work"' EXIT
+chmod 755 "$work"
+passed=0
+failed=0
+
+if [ ! -x "$program" ]; then
+    echo "the program is not built: rt ci builds it" >&2
+    echo "0 passed, 1 failed"
+    exit 1
+fi
+cp "$program" "$work/tars_tool"
+cd "$work" || exit 1
+
+# The outcome of a case: its name, the status, the output and the line on standard error that are wanted.
+# What the program did lies in `status`, `out` and `err`.
+judge() {
+    if [ "$(cat status)" = "$2" ] && [ "$(cat out)" = "$3" ] && [ "$(cat err)" = "$4" ]; then
+        passed=$((passed + 1))
+    else
+        failed=$((failed + 1))
+        echo "FAILED: $1: status $(cat status), wanted $2"
+        head -c 300 out err
+    fi
+}
+
+# A case whose standard output is kept: name, status, output, error line, then the words.
+case_of() {
+    local name=$1 status=$2 out=$3 err=$4
+    shift 4
+    timeout 60 ./tars_tool "$@" >out 2>err </dev/null
+    echo $? >status
+    judge "$name" "$status" "$out" "$err"
+}
+
+# A case of the script first.plan whose one file is made by the caller.
+interface_case() {
+    case_of "$1" "$2" "$3" "$4" plan first.plan
+}
+
+header() {
+    printf 'client calc.tars\ninterface M::Calc\nobject A.B.C@tcp -h %s -p 9001 -t 3000\nservant add add a b\n' "$1"
+}
+
+# A script of so many bytes: the header, and closes behind it. The host's name fills up the rest.
+long_script() {
+    local host=h
+    while [ $((($1 - $(header "$host" | wc -c)) % 6)) -ne 0 ]; do
+        host=h$host
+    done
+    header "$host"
+    yes close | head -c $(($1 - $(header "$host" | wc -c)))
+}
+
+calc='module M { interface Calc { int add(int a, int b); }; };'
+usage='usage: check encode decode compat plan made drill serve call'
+report='call 1 line 1 add node 1 live id 1 value 5
+sent 1 1 call 1 0000002510012C3C40015605412E422E4366036164647D00000410022003810BB8980CA80C
+got 1 1 used 1 0000001510012C30014C5C6D0000020005780C8600
+done calls 1 two-way 1 one-way 0'
+none='done calls 0 two-way 0 one-way 0'
+
+echo "$calc" >calc.tars
+{ header 127.0.0.1; printf 'call 1 add 2 3\nserve 1\nwork 1\ndeliver 1\n'; } >first.plan
+
+# Words.
+case_of 'a script is run' 0 "$report" '' plan first.plan
+case_of 'no word' 2 '' "$usage"
+case_of 'an unknown command' 2 '' "$usage" paln first.plan
+case_of 'a word that is no text' 2 '' "$usage" plan $'\xff.plan'
+case_of 'an empty word' 2 '' "$usage" plan ''
+
+# Scripts that can't be read, or hold no script.
+mkdir folder
+case_of 'no script' 3 '' 'read fault' plan none.plan
+case_of 'a folder as script' 3 '' 'read fault' plan folder
+: >empty.plan
+case_of 'an empty script' 1 'refused empty.plan script 1 0' '' plan empty.plan
+printf 'client calc.tars\0\n' >nul.plan
+case_of 'a script with a NUL' 1 'refused nul.plan script 1 0' '' plan nul.plan
+printf 'client calc\xff.tars\n' >bytes.plan
+case_of 'a script that is no text' 1 'refused bytes.plan script 1 0' '' plan bytes.plan
+long_script 1048576 >longest.plan
+case_of 'the longest script' 0 "$none" '' plan longest.plan
+long_script 1048577 >longer.plan
+case_of 'a script of one byte more' 1 'refused longer.plan script 1 0' '' plan longer.plan
+
+# A script or interface file that may not be read. Who runs as root may read it all the same.
+chmod 000 first.plan
+if [ -r first.plan ] && command -v setpriv >/dev/null; then
+    setpriv --reuid 65534 --regid 65534 --clear-groups timeout 60 ./tars_tool plan first.plan >out 2>err </dev/null
+    echo $? >status
+    judge 'a script that may not be read' 3 '' 'read fault'
+elif [ -r first.plan ]; then
+    echo 'skipped: a script that may not be read (no setpriv)'
+else
+    case_of 'a script that may not be read' 3 '' 'read fault' plan first.plan
+fi
+chmod 644 first.plan
+
+# Interface files.
+rm calc.tars
+interface_case 'no interface file' 3 '' 'read fault'
+mkdir calc.tars
+interface_case 'a folder as interface file' 3 '' 'read fault'
+rmdir calc.tars
+: >calc.tars
+interface_case 'an empty interface file' 1 'refused calc.tars parse 5 0' ''
+printf '%s\0\n' "$calc" >calc.tars
+interface_case 'an interface file with a NUL' 1 'refused calc.tars parse 5 0' ''
+printf '\xff%s\n' "$calc" >calc.tars
+interface_case 'an interface file that is no text' 1 'refused calc.tars parse 5 0' ''
+for size in 1048576 1048577; do
+    yes "$calc" | head -c "$size" >calc.tars
+    interface_case "an interface file of $size bytes" 1 'refused calc.tars parse 5 0' ''
+done
+echo "$calc" >calc.tars
+
+# Standard output.
+: >out
+timeout 60 ./tars_tool plan first.plan >&- 2>err </dev/null
+echo $? >status
+judge 'a closed output' 4 '' 'write fault'
+if [ -w /dev/full ]; then
+    timeout 60 ./tars_tool plan first.plan >/dev/full 2>err </dev/null
+    echo $? >status
+    judge 'a full output' 4 '' 'write fault'
+    timeout 60 ./tars_tool plan empty.plan >/dev/full 2>err </dev/null
+    echo $? >status
+    judge 'a full output for a refusal' 4 '' 'write fault'
+fi
+timeout 60 ./tars_tool plan first.plan >out 2>/dev/full </dev/null
+echo $? >status
+: >err
+judge 'a full standard error is not needed' 0 "$report" ''
+timeout 60 ./tars_tool >out 2>/dev/full </dev/null
+echo $? >status
+judge 'a full standard error leaves the status' 2 '' ''
+
+# The examples, as docs/SCRIPTS.md shows them.
+cp "$top"/examples/* .
+for plan in first late too_large refused; do
+    shown=$(awk -v plan="(../examples/$plan.plan)" \
+        'index($0, plan) {found = 1} found && /^```/ {fence++; next} found && fence == 1 {print} fence == 2 {exit}' \
+        "$top/docs/SCRIPTS.md")
+    status=0
+    [ "$plan" = refused ] && status=1
+    case_of "examples/$plan.plan" "$status" "$shown" '' plan "$plan.plan"
+done
+
+echo "$passed passed, $failed failed"
+[ "$failed" -eq 0 ]
