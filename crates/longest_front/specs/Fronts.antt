@@ -1,0 +1,14 @@
+-- Fronts of the words of a language, and the longest one that a word begins with.
+use Rattle.std.specs.Prelude.{ℕ, ◌<◌, ◌≤◌, List, ◌++◌, length, take}
+
+-- some word of the language goes on after this front
+pub record Begins {Letter : Type 0} (L : List Letter → Type 0) (front : List Letter) : Type 0 where
+  pub more : List Letter
+  pub word : L (front ++ more)
+
+-- The longest front of the word that some word of the language goes on after has this length: that front
+-- does go on, and no longer one does.
+pub record FaultAt {Letter : Type 0} (L : List Letter → Type 0) (word : List Letter) (place : ℕ) : Type 0 where
+  pub within : place ≤ length word
+  pub front : Begins L (take place word)
+  pub longest : (longer : ℕ) → place < longer → longer ≤ length word → Begins L (take longer word) → ⊥

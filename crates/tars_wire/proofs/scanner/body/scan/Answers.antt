@@ -1,0 +1,21 @@
+use Rattle.std.proofs.Common.{◌<◌, ℕ, get_or, [], arith}
+use Rattle.tars_wire.proofs.Judging.{taken_is_body, body_is_taken, stop_is_fault, left_within}
+use Rattle.tars_wire.proofs.scanner.body.scan.Goals as goal
+
+pub new-requires : goal.new-requires
+new-requires c =
+    let fits : (i : ℕ) → get_or c.args.bytes.now i 0 < 256 = λ i. omega (arith, c.type_inv.bytes i) in
+    taken_is_body c.args.bytes.now fits [] c.in-Ok.ensures
+
+pub overflow_sub-result : goal.overflow_sub-result
+overflow_sub-result c = left_within c.args.bytes.now c.in-Err.stop c.in-Err.ensures
+
+pub returns-in-Err-clause-only : goal.returns-in-Err-clause-only
+returns-in-Err-clause-only c =
+    let fits : (i : ℕ) → get_or c.args.bytes.now i 0 < 256 = λ i. omega (arith, c.type_inv.bytes i) in
+    λ b. absurd (body_is_taken c.args.bytes.now fits c.in-Err.stop c.in-Err.ensures b)
+
+pub returns-in-Err-clause-fault : goal.returns-in-Err-clause-fault
+returns-in-Err-clause-fault c =
+    let fits : (i : ℕ) → get_or c.args.bytes.now i 0 < 256 = λ i. omega (arith, c.type_inv.bytes i) in
+    stop_is_fault c.args.bytes.now fits c.in-Err.stop c.in-Err.ensures

@@ -1,0 +1,189 @@
+//! Pieces at the front of bytes in which they are known to stand: nothing is judged again.
+
+ghost use Rattle.std.specs.Prelude.{◌≡◌, ◌<◌, ◌^◌, IsTrue, IsSome, IsOk, length};
+ghost use Rattle.tars_wire.specs.Heads.{opens};
+ghost use Rattle.std.specs.Int.{w8, w16, w32, w64};
+ghost use Rattle.tars_wire.specs.Reading.{contents_at};
+ghost use Rattle.tars_wire.specs.Pieces.{head_front, bytes_front, unsigned_front, signed_front, number_front, size_front, text_front, simple_front, entered_front};
+
+use crate::head::Head;
+use crate::level::Level;
+use crate::scanner::past_contents;
+use crate::wire_type::WireType;
+use byteorder::{BigEndian, ByteOrder};
+
+/// A head in either form.
+#[tactic(auto, unfolding(crate::specs::Pieces::head_front))]
+pub fn peek_head(bytes: &[u8]) -> (Head, &[u8])
+    requires { IsSome (head_front bytes.now) }
+    ensures { head_front bytes.now ≡ Some (result.0, result.1.now) }
+{
+    let [first, rest @ ..] = bytes else {
+        unreachable!()
+    };
+    let Some(wire_type) = WireType::from_code(*first % 16) else {
+        unreachable!()
+    };
+    let tag = *first / 16;
+    if tag < 15 {
+        return (Head { tag, wire_type }, rest);
+    }
+    let [tag, rest @ ..] = rest else {
+        unreachable!()
+    };
+    let tag = *tag;
+    (Head { tag, wire_type }, rest)
+}
+
+/// So many bytes, and those behind them.
+#[tactic(auto, unfolding(crate::specs::Pieces::bytes_front))]
+fn peek_bytes(count: usize, bytes: &[u8]) -> (&[u8], &[u8])
+    requires { IsSome (bytes_front count bytes.now) }
+    ensures is { bytes_front count bytes.now ≡ Some (result.0.now, result.1.now) }
+    ensures count { length result.0.now ≡ count }
+{
+    match bytes.split_at_checked(count) {
+        Some(parts) => parts,
+        None => unreachable!(),
+    }
+}
+
+#[tactic(auto, unfolding(crate::specs::Pieces::unsigned_front))]
+fn peek_u8(bytes: &[u8]) -> (u8, &[u8])
+    requires { IsSome (unsigned_front w8 bytes.now) }
+    ensures { unsigned_front w8 bytes.now ≡ Some (result.0, result.1.now) }
+{
+    let (number, rest) = peek_bytes(1, bytes);
+    (number[0], rest)
+}
+
+#[tactic(auto, unfolding(crate::specs::Pieces::unsigned_front))]
+fn peek_u32(bytes: &[u8]) -> (u32, &[u8])
+    requires { IsSome (unsigned_front w32 bytes.now) }
+    ensures { unsigned_front w32 bytes.now ≡ Some (result.0, result.1.now) }
+{
+    let (number, rest) = peek_bytes(4, bytes);
+    (BigEndian::read_u32(number), rest)
+}
+
+#[tactic(auto, unfolding(crate::specs::Pieces::signed_front))]
+fn peek_i8(bytes: &[u8]) -> (i64, &[u8])
+    requires { IsSome (signed_front w8 bytes.now) }
+    ensures { signed_front w8 bytes.now ≡ Some (result.0, result.1.now) }
+{
+    let (number, rest) = peek_bytes(1, bytes);
+    (i64::from(number[0].cast_signed()), rest)
+}
+
+#[tactic(auto, unfolding(crate::specs::Pieces::signed_front))]
+fn peek_i16(bytes: &[u8]) -> (i64, &[u8])
+    requires { IsSome (signed_front w16 bytes.now) }
+    ensures { signed_front w16 bytes.now ≡ Some (result.0, result.1.now) }
+{
+    let (number, rest) = peek_bytes(2, bytes);
+    (i64::from(BigEndian::read_i16(number)), rest)
+}
+
+#[tactic(auto, unfolding(crate::specs::Pieces::signed_front))]
+fn peek_i32(bytes: &[u8]) -> (i64, &[u8])
+    requires { IsSome (signed_front w32 bytes.now) }
+    ensures { signed_front w32 bytes.now ≡ Some (result.0, result.1.now) }
+{
+    let (number, rest) = peek_bytes(4, bytes);
+    (i64::from(BigEndian::read_i32(number)), rest)
+}
+
+#[tactic(auto, unfolding(crate::specs::Pieces::signed_front))]
+fn peek_i64(bytes: &[u8]) -> (i64, &[u8])
+    requires { IsSome (signed_front w64 bytes.now) }
+    ensures { signed_front w64 bytes.now ≡ Some (result.0, result.1.now) }
+{
+    let (number, rest) = peek_bytes(8, bytes);
+    (BigEndian::read_i64(number), rest)
+}
+
+/// A whole number of a type.
+#[tactic(auto, unfolding(crate::specs::Pieces::number_front))]
+pub fn peek_number(wire_type: WireType, bytes: &[u8]) -> (i64, &[u8])
+    requires { IsSome (number_front wire_type bytes.now) }
+    ensures { number_front wire_type bytes.now ≡ Some (result.0, result.1.now) }
+{
+    match wire_type {
+        WireType::ZeroTag => (0, bytes),
+        WireType::Int1 => peek_i8(bytes),
+        WireType::Int2 => peek_i16(bytes),
+        WireType::Int4 => peek_i32(bytes),
+        WireType::Int8 => peek_i64(bytes),
+        _ => unreachable!(),
+    }
+}
+
+/// A size: how many bytes, values or pairs follow.
+#[tactic(auto, unfolding(crate::specs::Pieces::size_front))]
+fn peek_size(bytes: &[u8]) -> (u32, &[u8])
+    requires { IsSome (size_front bytes.now) }
+    ensures is { size_front bytes.now ≡ Some (result.0, result.1.now) }
+    ensures below { result.0 < 2 ^ 31 }
+{
+    let (head, rest) = peek_head(bytes);
+    let (number, rest) = peek_number(head.wire_type, rest);
+    (number as u32, rest)
+}
+
+/// The bytes of a string.
+#[tactic(auto, unfolding(crate::specs::Pieces::text_front))]
+pub fn peek_text(wire_type: WireType, bytes: &[u8]) -> (&[u8], &[u8])
+    requires { IsSome (text_front wire_type bytes.now) }
+    ensures { text_front wire_type bytes.now ≡ Some (result.0.now, result.1.now) }
+{
+    match wire_type {
+        WireType::String1 => {
+            let (size, rest) = peek_u8(bytes);
+            peek_bytes(usize::from(size), rest)
+        }
+        WireType::String4 => {
+            let (size, rest) = peek_u32(bytes);
+            peek_bytes(size as usize, rest)
+        }
+        _ => unreachable!(),
+    }
+}
+
+/// The bytes of a simple list.
+#[tactic(auto, unfolding(crate::specs::Pieces::simple_front))]
+pub fn peek_simple(bytes: &[u8]) -> (&[u8], &[u8])
+    requires { IsSome (simple_front bytes.now) }
+    ensures { simple_front bytes.now ≡ Some (result.0.now, result.1.now) }
+{
+    let (_, rest) = peek_head(bytes);
+    let (size, rest) = peek_size(rest);
+    peek_bytes(size as usize, rest)
+}
+
+/// What is open behind the head of a list, a map or a struct, and how many values or pairs it has.
+#[tactic(auto, unfolding(crate::specs::Pieces::entered_front))]
+pub fn enter_level(wire_type: WireType, bytes: &[u8]) -> (Level, u32, &[u8])
+    requires { IsSome (entered_front wire_type bytes.now) }
+    ensures { entered_front wire_type bytes.now ≡ Some (result.0, result.1, result.2.now) }
+{
+    if wire_type == WireType::StructBegin {
+        return (Level::Struct, 0, bytes);
+    }
+    let (size, rest) = peek_size(bytes);
+    if wire_type == WireType::Map {
+        return (Level::Map { left: 2 * size }, size, rest);
+    }
+    (Level::List { left: size }, size, rest)
+}
+
+/// Past what stands behind a head of this type.
+pub fn past_value(room: u8, wire_type: WireType, bytes: &[u8]) -> &[u8]
+    requires deep { IsTrue (opens wire_type) → 0 < room }
+    requires is { IsOk (contents_at room wire_type bytes.now) }
+    ensures { contents_at room wire_type bytes.now ≡ Ok result.now }
+{
+    match past_contents(room, wire_type, bytes) {
+        Ok(rest) => rest,
+        Err(_) => unreachable!(),
+    }
+}

@@ -1,0 +1,114 @@
+ghost use Rattle.std.specs.Prelude.{◌≡◌, List, [], ◌∷◌, Some, IfSome};
+ghost use Rattle.wire_words.specs.Tree.{WireFields};
+ghost use Rattle.tars_wire.specs.Heads.{MOST_DEPTH, opens};
+ghost use Rattle.tars_wire.specs.Spelled.{IsBody, Spelled};
+ghost use Rattle.tars_wire.specs.Left.{Remaining, fields_left, IsLeft, IsNext, NextIs, is_any_type, is_number_type, is_text_type, is_simple_type, head_left, of_next, next_of, number_in, text_in, simple_in, skipped, size_in, entered, left_over, HasEntered};
+
+use super::Cursor;
+use super::levels::{next_head, past_level};
+use super::pieces::{enter_level, past_value, peek_head, peek_number, peek_simple, peek_text};
+use crate::head::Head;
+use crate::level::Level;
+
+/// How many lists, maps and structs may stand inside one another.
+const MOST_OPEN: u8 = 64;
+
+impl<'a> Cursor<'a> {
+    /// A walk over the fields of a body.
+    pub fn over(bytes: &'a [u8]) -> Cursor<'a>
+        requires { IsBody bytes.now }
+        ensures { (fields : WireFields) → Spelled MOST_DEPTH bytes.now fields → IsLeft result (fields_left fields ∷ []) }
+    {
+        Cursor {
+            rest: bytes,
+            here: Level::Body,
+            outer: [Level::Body; 64],
+            depth: 0,
+        }
+    }
+
+    /// The tag and the type of the next field. None at the end of this body, struct, list or map.
+    pub fn head(&self) -> Option<Head>
+        ensures head { (left : List Remaining) → IsLeft self.now left → result ≡ head_left left }
+        ensures next { IfSome result (λ head. IsNext self.now head) }
+        ensures some { (left : List Remaining) × IsLeft self.now left }
+    {
+        next_head(self.here, self.rest)
+    }
+
+    /// Goes past the next field, whatever it is.
+    pub fn skip(&mut self)
+        requires { NextIs self.old is_any_type }
+        ensures { (left : List Remaining) → IsLeft self.old left → IsLeft self.new (skipped left) }
+    {
+        let (head, behind) = peek_head(self.rest);
+        self.rest = past_value(MOST_OPEN - self.depth as u8, head.wire_type, behind);
+        self.here = self.here.less();
+    }
+
+    /// The next field's whole number.
+    pub fn number(&mut self) -> i64
+        requires { NextIs self.old is_number_type }
+        ensures number { (left : List Remaining) → IsLeft self.old left → of_next number_in (next_of left) ≡ Some result }
+        ensures left { (left : List Remaining) → IsLeft self.old left → IsLeft self.new (skipped left) }
+    {
+        let (head, behind) = peek_head(self.rest);
+        let (number, rest) = peek_number(head.wire_type, behind);
+        self.rest = rest;
+        self.here = self.here.less();
+        number
+    }
+
+    /// The bytes of the next field's string.
+    pub fn text(&mut self) -> &'a [u8]
+        requires { NextIs self.old is_text_type }
+        ensures text { (left : List Remaining) → IsLeft self.old left → of_next text_in (next_of left) ≡ Some result.now }
+        ensures left { (left : List Remaining) → IsLeft self.old left → IsLeft self.new (skipped left) }
+    {
+        let (head, behind) = peek_head(self.rest);
+        let (text, rest) = peek_text(head.wire_type, behind);
+        self.rest = rest;
+        self.here = self.here.less();
+        text
+    }
+
+    /// The bytes of the next field's simple list.
+    pub fn simple(&mut self) -> &'a [u8]
+        requires { NextIs self.old is_simple_type }
+        ensures bytes { (left : List Remaining) → IsLeft self.old left → of_next simple_in (next_of left) ≡ Some result.now }
+        ensures left { (left : List Remaining) → IsLeft self.old left → IsLeft self.new (skipped left) }
+    {
+        let (_, behind) = peek_head(self.rest);
+        let (bytes, rest) = peek_simple(behind);
+        self.rest = rest;
+        self.here = self.here.less();
+        bytes
+    }
+
+    /// Goes into the next field, a list, a map or a struct, and answers how many elements or pairs it has;
+    /// 0 for a struct.
+    pub fn enter(&mut self) -> u32
+        requires { NextIs self.old opens }
+        ensures size { (left : List Remaining) → IsLeft self.old left → of_next size_in (next_of left) ≡ Some result }
+        ensures left { (left : List Remaining) → IsLeft self.old left → IsLeft self.new (entered left) }
+        ensures inside { HasEntered self.new }
+    {
+        let (head, behind) = peek_head(self.rest);
+        let (inside, size, rest) = enter_level(head.wire_type, behind);
+        self.outer[self.depth] = self.here.less();
+        self.depth += 1;
+        self.here = inside;
+        self.rest = rest;
+        size
+    }
+
+    /// Goes past the end of what was entered last and is not left yet, from wherever the walk stands in it.
+    pub fn leave(&mut self)
+        requires { HasEntered self.old }
+        ensures { (left : List Remaining) → IsLeft self.old left → IsLeft self.new (left_over left) }
+    {
+        self.rest = past_level(MOST_OPEN - self.depth as u8, self.here, self.rest);
+        self.depth -= 1;
+        self.here = self.outer[self.depth];
+    }
+}

@@ -1,0 +1,32 @@
+//! Laws of the grammar. The functions do nothing: each is its contract.
+
+ghost use Rattle.std.specs.Prelude.{◌≡◌, ◌↔◌, ℕ, List, [], ◌++◌, length};
+ghost use Rattle.tars_wire.specs.declared.wire_fault.WireFault.{WireFault};
+ghost use Rattle.tars_wire.specs.Faults.{IsFault};
+ghost use Rattle.wire_words.specs.Tree.{WireValue, WireFields};
+ghost use Rattle.tars_wire.specs.Spelled.{Spelled, SpelledField};
+ghost use Rattle.tars_wire.specs.Left.{Standing, Remaining, IsLeft};
+
+use crate::wire_fault::WireWhy;
+
+/// Bytes spell one list of fields at most.
+#[tactic(auto, using(crate::proofs::Extends::one_reading_law))]
+pub fn one_reading()
+    ensures { (room other_room : ℕ) (bytes : List ℕ) (fields others : WireFields) → Spelled room bytes fields → Spelled other_room bytes others → fields ≡ others }
+{}
+
+/// No spelling of a field goes on from a spelling of a field, of whatever tag and value.
+#[tactic(auto, using(crate::proofs::Extends::no_prefix_law))]
+pub fn no_spelling_begins_another()
+    ensures { (room other_room tag other_tag : ℕ) (value other : WireValue) (bytes more : List ℕ) → SpelledField room tag value bytes → SpelledField other_room other_tag other (bytes ++ more) → more ≡ [] }
+{}
+
+/// The reason of a fault is `Short` exactly where its place is the end of the bytes.
+pub fn short_is_at_the_end()
+    ensures { (bytes : List ℕ) (fault : WireFault) → IsFault bytes fault → ((fault.why ≡ WireWhy.Short) ↔ (fault.at ≡ length bytes)) }
+{}
+
+/// A cursor has one thing left at each open level. (`Cursor::head` tells that it has one.)
+pub fn one_remainder()
+    ensures { (cursor : Standing) (left other : List Remaining) → IsLeft cursor left → IsLeft cursor other → left ≡ other }
+{}

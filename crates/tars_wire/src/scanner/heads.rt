@@ -1,0 +1,46 @@
+ghost use Rattle.std.specs.Prelude.{◌≡◌, ◌<◌, length, IfOk};
+ghost use Rattle.tars_wire.specs.Reading.{Gives, tag_at, head_at};
+
+use crate::head::{FirstByte, Head};
+use crate::spot::Spot;
+use crate::stop::{SHORT, Stop};
+use crate::wire_type::WireType;
+
+/// The tag of a head in a byte of its own.
+#[tactic(auto, unfolding(crate::specs::Reading::tag_at))]
+fn read_tag(place: Spot, wire_type: WireType, bytes: &[u8]) -> Result<(Head, &[u8]), Stop>
+    ensures read { Gives (λ x. (x.0, x.1.now)) result (tag_at place wire_type bytes.now) }
+    ensures tag { IfOk result (λ x. x.0.tag < 256) }
+{
+    let [tag, rest @ ..] = bytes else {
+        return Err(SHORT);
+    };
+    let tag = *tag;
+    match place.tag_fault(wire_type, tag) {
+        None => Ok((Head { tag, wire_type }, rest)),
+        Some(why) => Err(Stop {
+            left: bytes.len(),
+            why,
+        }),
+    }
+}
+
+/// A head in either form, at a place.
+#[tactic(auto, unfolding(crate::specs::Reading::head_at))]
+#[inline(always)]
+pub fn read_head(place: Spot, bytes: &[u8]) -> Result<(Head, &[u8]), Stop>
+    ensures read { Gives (λ x. (x.0, x.1.now)) result (head_at place bytes.now) }
+    ensures tag { IfOk result (λ x. x.0.tag < 256) }
+{
+    let [first, rest @ ..] = bytes else {
+        return Err(SHORT);
+    };
+    match place.first_byte(*first) {
+        Ok(FirstByte::Whole(head)) => Ok((head, rest)),
+        Ok(FirstByte::Long(wire_type)) => read_tag(place, wire_type, rest),
+        Err(why) => Err(Stop {
+            left: bytes.len(),
+            why,
+        }),
+    }
+}

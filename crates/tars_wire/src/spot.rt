@@ -1,0 +1,174 @@
+ghost use Rattle.std.specs.Prelude.{◌≡◌, ◌<◌};
+ghost use Rattle.tars_wire.specs.Awaited.{order_fault, wrong_tag, takes, tag_fault, is_full, is_deep, short_fault, long_fault, judged_byte, first_byte};
+
+use crate::head::{FirstByte, Head};
+use crate::wire_fault::WireWhy;
+use crate::wire_type::WireType;
+
+/// The high four bits of a head whose tag is in a byte of its own.
+const LONG_FORM: u8 = 15;
+
+/// The highest tag.
+const LAST_TAG: u8 = 255;
+
+/// Where a head is read, and so which types and tags may stand there.
+#[derive(Clone, Copy, Debug, PartialEq, Eq)]
+pub enum Spot {
+    /// A field of the body, with a tag of at least this.
+    Body { from: u16 },
+    /// A field of a struct, with a tag of at least this, or the struct's end. `room` is how many lists,
+    /// maps and structs may still be opened inside one another.
+    Struct { from: u16, room: u8 },
+    /// An element, a key or a map's value.
+    Item { tag: u8, room: u8 },
+    /// The size of a list, a map or a simple list.
+    Size,
+    /// A simple list's own head.
+    Simple,
+}
+
+fn order_fault(from: u16, tag: u8) -> Option<WireWhy>
+    ensures { result ≡ order_fault from tag }
+{
+    if from <= u16::from(tag) || tag == LAST_TAG {
+        None
+    } else {
+        Some(WireWhy::Order)
+    }
+}
+
+fn wrong_tag(wanted: u8, tag: u8) -> Option<WireWhy>
+    ensures { result ≡ wrong_tag wanted tag }
+{
+    if tag == wanted {
+        None
+    } else {
+        Some(WireWhy::BadTag)
+    }
+}
+
+impl Spot {
+    /// Whether a head of this type may stand here.
+    #[tactic(auto, unfolding(crate::specs::Awaited::takes))]
+    fn takes(self, wire_type: WireType) -> bool
+        ensures { result ≡ takes self wire_type }
+    {
+        match self {
+            Spot::Body { .. } => !wire_type.is_end(),
+            Spot::Struct { .. } => true,
+            Spot::Item { .. } => !wire_type.is_end(),
+            Spot::Size => wire_type.is_size(),
+            Spot::Simple => wire_type == WireType::Int1,
+        }
+    }
+
+    /// What is wrong with a tag here. The last tag of all is judged at the head's first byte (`is_full`).
+    #[tactic(auto, unfolding(crate::specs::Awaited::tag_fault))]
+    pub fn tag_fault(self, wire_type: WireType, tag: u8) -> Option<WireWhy>
+        ensures { result ≡ tag_fault self wire_type tag }
+    {
+        match self {
+            Spot::Body { from } => order_fault(from, tag),
+            Spot::Struct { from, .. } => {
+                if wire_type.is_end() {
+                    wrong_tag(0, tag)
+                } else {
+                    order_fault(from, tag)
+                }
+            }
+            Spot::Item { tag: wanted, .. } => wrong_tag(wanted, tag),
+            Spot::Size => wrong_tag(0, tag),
+            Spot::Simple => wrong_tag(0, tag),
+        }
+    }
+
+    /// Whether no tag is left for a field, since the one before had the last.
+    #[tactic(auto, unfolding(crate::specs::Awaited::is_full))]
+    fn is_full(self, wire_type: WireType) -> bool
+        ensures { result ≡ is_full self wire_type }
+    {
+        match self {
+            Spot::Body { from } => from > u16::from(LAST_TAG),
+            Spot::Struct { from, .. } => !wire_type.is_end() && from > u16::from(LAST_TAG),
+            _ => false,
+        }
+    }
+
+    /// Whether a list, map or struct would be one too many inside one another.
+    #[tactic(auto, unfolding(crate::specs::Awaited::is_deep))]
+    fn is_deep(self, wire_type: WireType) -> bool
+        ensures { result ≡ is_deep self wire_type }
+    {
+        match self {
+            Spot::Struct { room, .. } => wire_type.opens() && room == 0,
+            Spot::Item { room, .. } => wire_type.opens() && room == 0,
+            _ => false,
+        }
+    }
+
+    #[tactic(auto, unfolding(crate::specs::Awaited::short_fault))]
+    fn short_fault(self, wire_type: WireType, tag: u8) -> Option<WireWhy>
+        ensures { result ≡ short_fault self wire_type tag }
+    {
+        if let Some(fault) = self.tag_fault(wire_type, tag) {
+            return Some(fault);
+        }
+        if self.is_deep(wire_type) {
+            Some(WireWhy::Depth)
+        } else {
+            None
+        }
+    }
+
+    #[tactic(auto, unfolding(crate::specs::Awaited::long_fault))]
+    fn long_fault(self, wire_type: WireType) -> Option<WireWhy>
+        ensures { result ≡ long_fault self wire_type }
+    {
+        if self.is_full(wire_type) {
+            return Some(WireWhy::Order);
+        }
+        if self.is_deep(wire_type) {
+            Some(WireWhy::Depth)
+        } else {
+            None
+        }
+    }
+
+    /// What the first byte of a head says here, by its type and its high four bits: the type is judged
+    /// first, then the tag where the byte holds it, then the depth.
+    #[tactic(auto, unfolding(crate::specs::Awaited::judged_byte))]
+    #[inline(always)]
+    fn judged_byte(self, wire_type: WireType, high: u8) -> Result<FirstByte, WireWhy>
+        ensures { result ≡ judged_byte self wire_type high }
+    {
+        if !self.takes(wire_type) {
+            return Err(WireWhy::BadType);
+        }
+        if high == LONG_FORM {
+            match self.long_fault(wire_type) {
+                None => Ok(FirstByte::Long(wire_type)),
+                Some(fault) => Err(fault),
+            }
+        } else {
+            match self.short_fault(wire_type, high) {
+                None => Ok(FirstByte::Whole(Head {
+                    tag: high,
+                    wire_type,
+                })),
+                Some(fault) => Err(fault),
+            }
+        }
+    }
+
+    /// What the first byte of a head says here.
+    #[tactic(auto, unfolding(crate::specs::Awaited::first_byte))]
+    #[inline(always)]
+    pub fn first_byte(self, byte: u8) -> Result<FirstByte, WireWhy>
+        ensures { result ≡ first_byte self byte }
+    {
+        match WireType::from_code(byte % 16) {
+            None => Err(WireWhy::BadType),
+            Some(wire_type) => self.judged_byte(wire_type, byte / 16),
+        }
+    }
+}

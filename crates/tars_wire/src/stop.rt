@@ -1,0 +1,15 @@
+use crate::wire_fault::WireWhy;
+
+/// Where reading stopped, and why.
+#[derive(Clone, Copy, Debug, PartialEq, Eq)]
+pub struct Stop {
+    /// How many bytes are left, from the first wrong one on. None for `Short`.
+    pub left: usize,
+    pub why: WireWhy,
+}
+
+/// The bytes ended.
+pub const SHORT: Stop = Stop {
+    left: 0,
+    why: WireWhy::Short,
+};

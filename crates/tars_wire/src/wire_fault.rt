@@ -1,0 +1,53 @@
+ghost use Rattle.std.specs.Prelude.{◌≡◌};
+ghost use Rattle.tars_wire.specs.Faults.{number_of};
+
+use thiserror::Error;
+
+/// Why bytes are no body.
+#[derive(Clone, Copy, Debug, PartialEq, Eq, Error)]
+pub enum WireWhy {
+    /// The bytes end inside a body.
+    #[error("short")]
+    Short,
+    /// Types 14 and 15, a struct's end where no struct ends, or a type that no size, or no simple list,
+    /// begins with.
+    #[error("bad type")]
+    BadType,
+    /// A negative size.
+    #[error("bad size")]
+    BadSize,
+    /// A wrong tag on a size, an element, a key, a map's value, a simple list's own head or a struct's end.
+    #[error("bad tag")]
+    BadTag,
+    /// A tag that is not above the one before it.
+    #[error("order")]
+    Order,
+    /// More lists, maps and structs inside one another than 64.
+    #[error("depth")]
+    Depth,
+}
+
+impl WireWhy {
+    /// Its number in faults that are printed, from 1.
+    pub fn number(self) -> u8
+        ensures { result ≡ number_of self }
+    {
+        match self {
+            WireWhy::Short => 1,
+            WireWhy::BadType => 2,
+            WireWhy::BadSize => 3,
+            WireWhy::BadTag => 4,
+            WireWhy::Order => 5,
+            WireWhy::Depth => 6,
+        }
+    }
+}
+
+/// The first byte after which nothing makes the bytes a body, counted from 0.
+#[derive(Clone, Copy, Debug, PartialEq, Eq, Error)]
+#[error("{why} at {at}")]
+pub struct WireFault {
+    /// The number of bytes before it. All of them for `Short`.
+    pub at: u32,
+    pub why: WireWhy,
+}
