@@ -1,0 +1,22 @@
+use Rattle.std.proofs.Common.{sym, ◌∙◌, length}
+use Rattle.idl_parse.proofs.FileLaws.{file_sound, file_complete, entries_of}
+use Rattle.idl_parse.proofs.ParseSteps.{no_file, true_fault, refused_fault}
+use Rattle.idl_parse.proofs.ast.parse.Goals as goal
+
+pub returns-in-Err-clause-only : goal.returns-in-Err-clause-only
+returns-in-Err-clause-only c = no_file (length c.args.text.now) c.args.tokens.now c.in-Err.halt c.fault_of.result c.in-Err.ensures c.fault_of.ensures
+
+pub returns-in-Err-clause-fault : goal.returns-in-Err-clause-fault
+returns-in-Err-clause-fault c = true_fault c.args.text.now c.args.tokens.now c.in-Err.halt c.fault_of.result c.in-Err.ensures c.fault_of.ensures
+
+pub returns-in-Err-clause-refused : goal.returns-in-Err-clause-refused
+returns-in-Err-clause-refused c = refused_fault c.args.text.now c.args.tokens.now c.in-Err.halt c.fault_of.result c.in-Err.ensures c.fault_of.ensures
+
+pub returns-clause-refused : goal.returns-clause-refused
+returns-clause-refused c = λ at why is. is.no_file c.in-Ok.entries (file_sound 15 c.args.tokens.now c.in-Ok.entries c.in-Ok.ensures)
+
+pub returns-clause-read : goal.returns-clause-read
+returns-clause-read c = file_sound 15 c.args.tokens.now c.in-Ok.entries c.in-Ok.ensures
+
+pub returns-clause-only : goal.returns-clause-only
+returns-clause-only c = λ entries is. entries_of (sym c.in-Ok.ensures ∙ file_complete 15 c.args.tokens.now entries is)

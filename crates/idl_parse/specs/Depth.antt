@@ -1,0 +1,27 @@
+-- How many types a place stands inside. `<` and `>` stand in types alone, so these are as many as `<` are
+-- open there (docs/IDL.md, "Faults of the grammar").
+use Rattle.std.specs.Prelude.{ℕ, zero, suc, ◌<◌, List, [], ◌∷◌}
+use Rattle.idl_parse.specs.declared.kind.Kind.{Kind}
+use Rattle.idl_parse.specs.declared.kind.Kind.TheVariants.{Sign}
+use Rattle.idl_parse.specs.declared.sign.Sign.TheVariants.{Less, Greater}
+use Rattle.idl_parse.specs.declared.token.Token.{Token}
+
+abbrev pub one_less : ℕ → ℕ
+one_less zero = zero
+one_less (suc n) = n
+
+-- how many are open behind a token, where so many are before it
+abbrev pub behind : Kind → ℕ → ℕ
+behind (Sign Less) n = suc n
+behind (Sign Greater) n = one_less n
+behind _ n = n
+
+-- how many are open behind all tokens
+abbrev pub opened : ℕ → List Token → ℕ
+opened n [] = n
+opened n (t ∷ ts) = opened (behind t.kind n) ts
+
+-- before each token fewer are open than the limit
+abbrev pub Shallow : ℕ → ℕ → List Token → Type 0
+Shallow limit n [] = Unit {0}
+Shallow limit n (t ∷ ts) = (n < limit) × Shallow limit (behind t.kind n) ts

@@ -1,0 +1,40 @@
+//! Texts of the Tars interface language as tokens, and tokens as the tree of a file (docs/IDL.md). `lex`
+//! gives the tokens of a text or its first fault from the left, and nothing is copied: a token is a span
+//! of the text. `parse` gives the file that the tokens are, or where and why they are none.
+//!
+//! Read `specs/Forms.antt` and `specs/Tokens.antt` first, which say what tokens and fault a text has, and
+//! then `specs/Grammar.antt`, which has the productions, and `specs/Faults.antt`, which says what fault
+//! tokens have. `specs/Lexing.antt` and `specs/Reading.antt` follow the code's steps and are for the
+//! proofs.
+#![tactic(auto)]
+
+mod ast;
+mod escape;
+mod fault;
+mod front;
+mod gaps;
+mod keyword;
+mod kind;
+mod lex_fault;
+mod lexer;
+mod numbers;
+mod parse_fault;
+mod parser;
+mod pieces;
+mod runs;
+mod sign;
+mod span;
+mod texts;
+mod token;
+pub mod tree;
+mod words;
+
+pub use ast::{Ast, parse};
+pub use keyword::Keyword;
+pub use kind::Kind;
+pub use lex_fault::{LexFault, LexWhy};
+pub use lexer::{lex, one_outcome};
+pub use parse_fault::{ParseFault, ParseWhy};
+pub use sign::Sign;
+pub use span::Span;
+pub use token::Token;

@@ -1,0 +1,8 @@
+use crate::token::Token;
+
+/// Bytes of a text: from `start` up to `end`.
+#[derive(Clone, Copy, Debug, PartialEq, Eq)]
+pub struct Span {
+    pub start: u32,
+    pub end: u32,
+}

@@ -1,0 +1,56 @@
+use super::{FuncTree, Literal, MemberTree, TypedName};
+use crate::span::Span;
+use tars_model::List;
+
+/// A struct, its members in text order.
+#[derive(Debug, Drop)]
+pub struct StructTree {
+    pub name: Span,
+    pub members: List<MemberTree>,
+}
+
+/// An enumerator, with its number where one is written.
+#[derive(Clone, Copy, Debug, PartialEq, Eq)]
+pub struct EnumItem {
+    pub name: Span,
+    pub number: Option<Span>,
+}
+
+/// An enum, its enumerators in text order.
+#[derive(Debug, Drop)]
+pub struct EnumTree {
+    pub name: Span,
+    pub items: List<EnumItem>,
+}
+
+/// A constant.
+#[derive(Debug, Drop)]
+pub struct ConstTree {
+    pub typed: TypedName,
+    pub value: Literal,
+}
+
+/// The members by which structs of a name are sorted.
+#[derive(Debug, Drop)]
+pub struct KeyTree {
+    /// The struct's name, and behind it the members' names.
+    pub of: Span,
+    pub members: List<Span>,
+}
+
+/// An interface, its functions in text order.
+#[derive(Debug, Drop)]
+pub struct InterfaceTree {
+    pub name: Span,
+    pub funcs: List<FuncTree>,
+}
+
+/// What a module declares.
+#[derive(Debug, Drop)]
+pub enum DeclTree {
+    Struct(StructTree),
+    Enum(EnumTree),
+    Const(ConstTree),
+    Key(KeyTree),
+    Interface(InterfaceTree),
+}

@@ -1,0 +1,19 @@
+use super::{TypeTree, TypedName};
+use crate::span::Span;
+use tars_model::List;
+
+/// A parameter. `routekey` is where that word stands.
+#[derive(Debug, Drop)]
+pub struct ParamTree {
+    pub routekey: Option<u32>,
+    pub out: bool,
+    pub typed: TypedName,
+}
+
+/// A function. It is `void` where it has no type.
+#[derive(Debug, Drop)]
+pub struct FuncTree {
+    pub ret: Option<TypeTree>,
+    pub name: Span,
+    pub params: List<ParamTree>,
+}
