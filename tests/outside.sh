@@ -59,6 +59,12 @@ long_script() {
     yes close | head -c $(($1 - $(header "$host" | wc -c)))
 }
 
+# An interface file of so many bytes: a comment fills it up.
+long_interface() {
+    printf '%s//' "$calc"
+    head -c $(($1 - ${#calc} - 2)) /dev/zero | tr '\0' 'a'
+}
+
 calc='module M { interface Calc { int add(int a, int b); }; };'
 usage='usage: check encode decode compat plan made drill serve call'
 report='call 1 line 1 add node 1 live id 1 value 5
@@ -112,15 +118,15 @@ mkdir calc.tars
 interface_case 'a folder as interface file' 3 '' 'read fault'
 rmdir calc.tars
 : >calc.tars
-interface_case 'an empty interface file' 1 'refused calc.tars parse 5 0' ''
+interface_case 'an empty interface file' 1 'refused calc.tars check 11 0' ''
 printf '%s\0\n' "$calc" >calc.tars
-interface_case 'an interface file with a NUL' 1 'refused calc.tars parse 5 0' ''
+interface_case 'an interface file with a NUL' 1 "refused calc.tars lex 1 ${#calc}" ''
 printf '\xff%s\n' "$calc" >calc.tars
-interface_case 'an interface file that is no text' 1 'refused calc.tars parse 5 0' ''
-for size in 1048576 1048577; do
-    yes "$calc" | head -c "$size" >calc.tars
-    interface_case "an interface file of $size bytes" 1 'refused calc.tars parse 5 0' ''
-done
+interface_case 'an interface file that is no text' 1 'refused calc.tars lex 1 0' ''
+long_interface 1048576 >calc.tars
+interface_case 'the longest interface file' 0 "$report" ''
+long_interface 1048577 >calc.tars
+interface_case 'an interface file of one byte more' 1 'refused calc.tars parse 5 0' ''
 echo "$calc" >calc.tars
 
 # Standard output.
@@ -146,12 +152,12 @@ judge 'a full standard error leaves the status' 2 '' ''
 
 # The examples, as docs/SCRIPTS.md shows them.
 cp "$top"/examples/* .
-for plan in first late too_large refused; do
+for plan in first late too_large refused typo; do
     shown=$(awk -v plan="(../examples/$plan.plan)" \
         'index($0, plan) {found = 1} found && /^```/ {fence++; next} found && fence == 1 {print} fence == 2 {exit}' \
         "$top/docs/SCRIPTS.md")
     status=0
-    [ "$plan" = refused ] && status=1
+    case $plan in refused | typo) status=1 ;; esac
     case_of "examples/$plan.plan" "$status" "$shown" '' plan "$plan.plan"
 done
 

@@ -13,10 +13,10 @@ pub mod LegalCourses
 pub mod LegalSteps
 pub mod LegalRows
 pub mod LegalReplies
+pub mod InterfaceLaws
 pub mod LegalLaw
 pub mod Readers
 pub mod Names
-pub mod Interface
 pub mod Texts
 pub mod Numbers
 pub mod Lines

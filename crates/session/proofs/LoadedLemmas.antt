@@ -4,7 +4,7 @@ use Rattle.std.specs.List.{AllByRecursion}
 use Rattle.std.specs.Str.{bytes_eq}
 use Rattle.session.specs.declared.loaded.Loaded.{Loaded}
 use Rattle.session.specs.declared.service.Service.{Service}
-use Rattle.session.specs.InterfaceText.{InterfaceText}
+use Rattle.session.specs.InterfaceFile.{InterfaceText}
 use Rattle.session.specs.ScriptText.{ScriptText, IsScriptText, ObjectText, EventText, call, serve, work, deliver, close, object_id, object_line, MAX_LINE}
 use Rattle.session.specs.Loading.{IsLoaded, loaded_of, place_of, events_from, IsEventOf}
 use Rattle.session.specs.Services.{IsService, HaveInts, service_of}
@@ -40,7 +40,7 @@ service_loaded s i bytes h name = record {
 pub service_sound : (l : Loaded) → IsLoaded l → IsService (service_of l)
 service_sound l h =
     subst (λ (x : Loaded). IsService (service_of x)) (sym h.is)
-    (service_loaded h.script h.interface h.script_bytes h.script_form h.interface_form.func.short)
+    (service_loaded h.script h.interface h.script_bytes h.script_form (subst (λ (func : List ℕ). length func ≤ 32) h.agree.func h.script_form.func.short))
 
 pub sound_as : (l : Loaded) (s : Service) → IsLoaded l → s ≡ service_of l → IsService s
 sound_as l s h e = subst IsService (sym e) (service_sound l h)

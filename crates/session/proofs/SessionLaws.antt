@@ -14,7 +14,7 @@ use Rattle.session.specs.declared.loaded.Loaded.{Loaded}
 use Rattle.session.specs.declared.loaded.Rule.{Rule}
 use Rattle.session.specs.declared.loaded.Rule.TheVariants.{Add}
 use Rattle.session.specs.declared.script.ScriptText.{ScriptText as ScriptStruct}
-use Rattle.session.specs.InterfaceText.{InterfaceText}
+use Rattle.session.specs.InterfaceFile.{InterfaceText}
 use Rattle.session.specs.Loading.{Agree, IsParameter, IsEventOf, events_from, place_of, loaded_of}
 use Rattle.session.specs.Reading.{int_of}
 use Rattle.tars_model.specs.Fits.{IsInt, is_int}

@@ -1,5 +1,6 @@
 pub mod Words
-pub mod InterfaceText
+pub mod InterfaceFile
+pub mod InterfaceVerdicts
 pub mod ScriptText
 pub mod RpcPackets
 pub mod Sessions
@@ -10,7 +11,6 @@ pub mod Legal
 pub mod Loading
 pub mod Tracks
 pub mod Scan
-pub mod InterfaceSteps
 pub mod Reading
 pub mod Numbers
 pub mod ScriptSteps

@@ -9,28 +9,25 @@ use Rattle.session.specs.declared.loaded.Event.{Event}
 use Rattle.session.specs.declared.loaded.Event.TheVariants.{Call, Serve, Work, Deliver, Close}
 use Rattle.session.specs.declared.loaded.Loaded.{Loaded}
 use Rattle.session.specs.declared.loaded.Rule.TheVariants.{Add}
-use Rattle.session.specs.InterfaceText.{InterfaceText, IsInterfaceText}
+use Rattle.session.specs.InterfaceFile.{InterfaceText, IsJudged}
+use Rattle.session.specs.InterfaceFile as verdict
 use Rattle.session.specs.ScriptText.{ScriptText, IsScriptText, EventText, call, serve, work, deliver, close, object_id}
 use Rattle.session.specs.Sessions.{func_of_two, schema_of_one}
 use Rattle.tars_model.specs.Fits.{IsInt}
 use Rattle.session.specs.Words.{number_of}
 
--- The lines of a refusal: the refused file's name, what was wrong, a number and a place.
+-- The lines of a refusal: the refused file's name, the stage that refused it, a number and a place.
 
 abbrev pub refusal_line : List ℕ → List ℕ → List ℕ
-refusal_line name what = codes "refused " ++ name ++ what ++ codes "\n"
+refusal_line name what = codes "refused " ++ name ++ codes " " ++ what ++ codes "\n"
 
 -- a script of no accepted form
 abbrev pub BAD_SCRIPT : List ℕ
-BAD_SCRIPT = codes " script 1 0"
-
--- an interface file of no accepted form
-abbrev pub BAD_INTERFACE : List ℕ
-BAD_INTERFACE = codes " parse 5 0"
+BAD_SCRIPT = codes "script 1 0"
 
 -- a name that is not the interface file's, or an argument that is no int
 abbrev pub BAD_VALUE : List ℕ
-BAD_VALUE = codes " script 7 0"
+BAD_VALUE = codes "script 7 0"
 
 -- What a script and an interface file have to agree on.
 
@@ -104,16 +101,16 @@ pub data Loads (contents : Contents) (script : List ℕ) : LoadAnswer → Type 0
       → contents s.client ≡ None
       → Loads contents script (unread s.client)
   bad_interface :
-      (text file : List ℕ) (s : ScriptText) → contents script ≡ Some text → IsScriptText s text
-      → contents s.client ≡ Some file → ((i : InterfaceText) → IsInterfaceText i file → ⊥)
-      → Loads contents script (refused (refusal_line s.client BAD_INTERFACE))
+      (text file what : List ℕ) (s : ScriptText) → contents script ≡ Some text → IsScriptText s text
+      → contents s.client ≡ Some file → IsJudged file (verdict.refused what)
+      → Loads contents script (refused (refusal_line s.client what))
   bad_value :
       (text file : List ℕ) (s : ScriptText) (i : InterfaceText) → contents script ≡ Some text → IsScriptText s text
-      → contents s.client ≡ Some file → IsInterfaceText i file → (Agree s i → ⊥)
+      → contents s.client ≡ Some file → IsJudged file (verdict.accepted i) → (Agree s i → ⊥)
       → Loads contents script (refused (refusal_line script BAD_VALUE))
   session :
       (text file : List ℕ) (s : ScriptText) (i : InterfaceText) → contents script ≡ Some text → IsScriptText s text
-      → contents s.client ≡ Some file → IsInterfaceText i file → Agree s i
+      → contents s.client ≡ Some file → IsJudged file (verdict.accepted i) → Agree s i
       → Loads contents script (loaded (loaded_of s i))
 
 -- a session that was loaded from texts that are accepted and agree
@@ -123,6 +120,6 @@ pub record IsLoaded (l : Loaded) : Type 0 where
   pub script_bytes : List ℕ
   pub interface_bytes : List ℕ
   pub script_form : IsScriptText script script_bytes
-  pub interface_form : IsInterfaceText interface interface_bytes
+  pub interface_form : IsJudged interface_bytes (verdict.accepted interface)
   pub agree : Agree script interface
   pub is : l ≡ loaded_of script interface

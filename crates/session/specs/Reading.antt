@@ -1,12 +1,12 @@
 -- What the structs that the readers return hold, and what a script's text means
--- (`specs/InterfaceText.antt`, `specs/ScriptText.antt`).
+-- (`specs/InterfaceFile.antt`, `specs/ScriptText.antt`).
 use Rattle.std.specs.Prelude.{◌≡◌, ℕ, if◌then◌else◌, ℤ, List, map, Option, Some, None}
 use Rattle.std.specs.Str.Parse.{digits_value}
-use Rattle.session.specs.declared.idl_parse.InterfaceText.{InterfaceText as InterfaceStruct}
+use Rattle.session.specs.declared.interface_file.InterfaceText.{InterfaceText as InterfaceStruct}
 use Rattle.session.specs.declared.script.event.EventText.{EventText as EventEnum}
 use Rattle.session.specs.declared.script.event.EventText.TheVariants as events
 use Rattle.session.specs.declared.script.ScriptText.{ScriptText as ScriptStruct}
-use Rattle.session.specs.InterfaceText.{InterfaceText}
+use Rattle.session.specs.InterfaceFile.{InterfaceText}
 use Rattle.session.specs.ScriptText.{EventText, ScriptText, object_id}
 use Rattle.session.specs.ScriptText as script
 use Rattle.session.specs.Words.{number_of}

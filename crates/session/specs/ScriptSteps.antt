@@ -9,7 +9,7 @@ use Rattle.session.specs.declared.script.header.InterfaceName.{InterfaceName}
 use Rattle.session.specs.declared.script.header.RuleText.{RuleText}
 use Rattle.session.specs.Numbers.{natural_within, number}
 use Rattle.session.specs.Reading.{EventValue, event_of, call, serve, work, deliver, close}
-use Rattle.session.specs.InterfaceText.{MAX_FILE}
+use Rattle.session.specs.InterfaceFile.{MAX_FILE}
 use Rattle.session.specs.ScriptText.{MAX_LINE, MAX_CALLS, is_part_byte, is_host_byte}
 use Rattle.wire_words.specs.Bind.{◌>>=◌}
 use Rattle.session.specs.Scan.{Whole, Front, tested, skip, before, within, ◌&◌, ◌&>◌, name, name_before, utf8}

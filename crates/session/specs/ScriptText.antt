@@ -2,7 +2,7 @@
 use Rattle.std.specs.Prelude.{◌≡◌, ◌≤◌, ℕ, Bool, true, false, ◌||◌, ◌==◌, not, ◌⊎◌, List, ◌∷◌, ◌++◌, length, map, count_by, codes, IsUtf8}
 use Rattle.std.specs.List.{list_all, flat_map, AllByRecursion}
 use Rattle.session.specs.Words.{is_letter, is_digit, IsName, is_number, IsNaturalWithin}
-use Rattle.session.specs.InterfaceText.{MAX_FILE}
+use Rattle.session.specs.InterfaceFile.{MAX_FILE}
 
 abbrev pub MAX_LINE : ℕ
 MAX_LINE = 4096

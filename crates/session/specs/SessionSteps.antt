@@ -11,7 +11,7 @@ use Rattle.session.specs.declared.loaded.Rule.{Rule}
 use Rattle.session.specs.declared.loaded.Rule.TheVariants.{Add}
 use Rattle.session.specs.declared.script.ScriptText.{ScriptText}
 use Rattle.session.specs.declared.script.object.ObjectText.{ObjectText}
-use Rattle.session.specs.InterfaceText.{InterfaceText}
+use Rattle.session.specs.InterfaceFile.{InterfaceText}
 use Rattle.session.specs.Reading.{EventValue, event_of, call, serve, work, deliver, close}
 use Rattle.wire_words.specs.Bind.{◌>>=◌}
 use Rattle.session.specs.Sessions.{func_of_two, schema_of_one}

@@ -2,7 +2,8 @@
 #![tactic(auto)]
 
 mod bodies;
-mod idl_parse;
+mod interface_fault;
+mod interface_file;
 mod link_log;
 mod load_fault;
 mod loaded;
@@ -20,7 +21,7 @@ mod servant_core;
 mod service;
 mod tars_frames;
 
-pub(crate) use idl_parse::{InterfaceText, read_interface};
+pub(crate) use interface_file::{InterfaceText, read_interface};
 pub use link_log::{GotFate, GotRow, LinkLog, SentRow};
 pub use load_fault::LoadFault;
 pub use loaded::{CallSpec, Endpoint, Event, FuncRule, Loaded, ObjectName, Rule};

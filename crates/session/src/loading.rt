@@ -1,11 +1,12 @@
 //! Loading: a script and its interface file are read and judged (docs/SCRIPTS.md, "Loading").
 
 ghost use Rattle.std.specs.Prelude.{◌≡◌, IfOk, IfSome};
-ghost use Rattle.session.specs.LoadAnswers.{answer_of, IsGiven, IsOnlyGiven, IsRefusedBy};
+ghost use Rattle.session.specs.LoadAnswers.{answer_of, IsGiven, IsOnlyGiven, IsRefusedBy, IsFileRefusedBy};
 ghost use Rattle.session.specs.Loading.{IsLoaded, Loads, refusal_line};
 ghost use Rattle.tars_base.specs.Causes.{HasCauseOf};
 ghost use Rattle.tars_base.specs.Contents.{IsToldOnly};
 
+use crate::interface_fault::InterfaceFault;
 use crate::scan::MAX_FILE;
 use crate::{LoadFault, Loaded, Mode, read_interface, read_script};
 use session::session_of;
@@ -20,19 +21,17 @@ mod session;
 const MOST: usize = MAX_FILE + 1;
 
 /// A script of no accepted form.
-const BAD_SCRIPT: &[u8] = b" script 1 0";
-
-/// An interface file of no accepted form.
-const BAD_INTERFACE: &[u8] = b" parse 5 0";
+const BAD_SCRIPT: &[u8] = b"script 1 0";
 
 /// A name that is not the interface file's, or an argument that is no int.
-const BAD_VALUE: &[u8] = b" script 7 0";
+const BAD_VALUE: &[u8] = b"script 7 0";
 
 fn refusal_line(alloc: Global, name: &str, what: &[u8]) -> Result<Bytes8, AllocError>
     ensures { IfOk result (λ line. line ≡ refusal_line name.now what.now) }
 {
     let mut line = Vec::from_slice(alloc, b"refused ")?;
     line.extend_from_slice(name.as_bytes())?;
+    line.push(b' ')?;
     line.extend_from_slice(what)?;
     line.push(b'\n')?;
     Ok(Bytes8::from_vec(line))
@@ -48,6 +47,19 @@ fn refused(alloc: Global, name: &str, what: &[u8]) -> LoadFault
     }
 }
 
+/// Refuses an interface file, if there is memory for the line.
+fn refused_file(alloc: Global, name: &str, fault: InterfaceFault) -> LoadFault
+    ensures { IsFileRefusedBy name.now fault result }
+{
+    let InterfaceFault::Refused(fault) = fault else {
+        return LoadFault::Memory;
+    };
+    match fault.to_string(alloc) {
+        Ok(what) => refused(alloc, name, what.as_bytes()),
+        Err(_) => LoadFault::Memory,
+    }
+}
+
 /// The session of a script that is run at once.
 fn load_plan<F: Files>(alloc: Global, files: &mut F, name: &str) -> Result<Loaded, LoadFault>
     ensures sound { IfOk result (λ l. IsLoaded l) }
@@ -60,8 +72,9 @@ fn load_plan<F: Files>(alloc: Global, files: &mut F, name: &str) -> Result<Loade
         return Err(refused(alloc, name, BAD_SCRIPT));
     };
     let file = files.read(alloc, script.client, MOST)?;
-    let Some(interface) = read_interface(&file) else {
-        return Err(refused(alloc, script.client, BAD_INTERFACE));
+    let interface = match read_interface(alloc, script.client, &file) {
+        Ok(interface) => interface,
+        Err(fault) => return Err(refused_file(alloc, script.client, fault)),
     };
     match session_of(alloc, &interface, &script)? {
         Some(loaded) => Ok(loaded),

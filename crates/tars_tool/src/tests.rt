@@ -123,7 +123,9 @@ fn a_refused_text_is_named(rt: HostRuntime) -> Result<(), Fail> {
     let cases = [
         ("", CALC, "refused first.plan script 1 0\n"),
         ("call 1 add 2 3\n", CALC, "refused first.plan script 1 0\n"),
-        (HEADER, "module M { };\n", "refused calc.tars parse 5 0\n"),
+        (HEADER, "module M { };\n", "refused calc.tars check 11 0\n"),
+        (HEADER, "module M {", "refused calc.tars parse 5 10\n"),
+        (HEADER, "module M { @", "refused calc.tars lex 1 11\n"),
         (
             HEADER,
             "module M { interface Calc { int sum(int a, int b); }; };",

@@ -1,7 +1,7 @@
 //! The session that a script and its interface file say together.
 
 ghost use Rattle.std.specs.Prelude.{◌≡◌, ◌≤◌, [], ◌∷◌, map, count_by, IfOk, MatchOption};
-ghost use Rattle.session.specs.InterfaceText.{InterfaceText as Named};
+ghost use Rattle.session.specs.InterfaceFile.{InterfaceText as Named};
 ghost use Rattle.session.specs.Loading.{Agree, loaded_of};
 ghost use Rattle.session.specs.Reading.{names_of, event_of, Reads};
 ghost use Rattle.session.specs.Scan.{Gives};

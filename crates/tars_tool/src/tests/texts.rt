@@ -6,6 +6,10 @@ use std::alloc::Global;
 use std::test::Fail;
 use tars_base::{Memory, Status};
 
+/// Sixteen vectors round an int, one more than there may be.
+const DEEP: &str =
+    "vector<vector<vector<vector<vector<vector<vector<vector<vector<vector<vector<vector<vector<vector<vector<vector<int>>>>>>>>>>>>>>>> add";
+
 /// How a run ends, and what it writes.
 fn ran(alloc: Global, script: &str, interface: &str) -> Result<(Status, String), Memory> {
     let files = [("first.plan", script), ("calc.tars", interface)];
@@ -71,33 +75,59 @@ fn a_script_of_another_form_is_refused(rt: HostRuntime) -> Result<(), Fail> {
 }
 
 #[test]
-fn an_interface_file_of_another_form_is_refused(rt: HostRuntime) -> Result<(), Fail> {
+fn an_interface_file_is_refused_with_its_stage_number_and_place(
+    rt: HostRuntime,
+) -> Result<(), Fail> {
     let alloc = rt.alloc();
-    // what stands in the interface file, and what is put in its place
+    // what stands in the interface file, what is put in its place, and the refusal
     let cases = [
-        (CALC, ""),
-        (CALC, "\n"),
-        ("module M", "module"),
-        ("module M", " module M"),
-        ("module M", "module  M"),
-        ("module M", "module M2"),
-        ("module M", "module interface"),
-        ("Calc", "abcdefghijklmnopqrstuvwxyzABCDEFG"),
-        ("Calc", "vector"),
-        ("int add", "long add"),
-        ("int add", "void add"),
-        ("int b", "int a"),
-        ("int b", "int"),
-        ("); }; };", ") }; };"),
-        ("}; };\n", "}; }"),
-        ("}; };\n", "}; };\n\n"),
-        ("}; };\n", "}; }; "),
+        ("module M", "module @", "lex 1 7"),
+        ("add(", "add /* ", "lex 2 36"),
+        ("int b", "int \"b", "lex 3 47"),
+        ("int b", "int 9b", "lex 4 47"),
+        ("module M", "module", "parse 5 7"),
+        ("module M", "module interface", "parse 5 7"),
+        ("Calc", "vector", "parse 5 21"),
+        ("int b", "int", "parse 5 46"),
+        ("); }; };", ") }; };", "parse 5 50"),
+        ("}; };\n", "}; }", "parse 5 55"),
+        ("int add", DEEP, "parse 6 140"),
+        (CALC, "", "check 11 0"),
+        ("module M", "#include \"a.tars\" module M", "check 11 0"),
+        ("}; };\n", "}; }; module N {};", "check 11 0"),
+        ("int add", "long add", "check 11 0"),
+        ("int add", "void add", "check 11 0"),
+        ("int add", "vector<int> add", "check 11 0"),
+        ("(int a", "(out int a", "check 11 0"),
+        ("(int a", "(routekey int a", "check 11 0"),
+        ("int b", "int a", "check 11 0"), // of one name
+        ("int b", "int b, int c", "check 11 0"),
+    ];
+    for (old, new, what) in cases {
+        let interface = CALC.replace(alloc, old, new)?;
+        let (status, text) = ran(alloc, FIRST, &interface)?;
+        assert_eq!(rt; status, Status::Refused, "at {new}");
+        let line = format!(in alloc; "refused calc.tars {what}\n")?;
+        assert_eq!(rt; text.as_str(), line.as_str(), "at {new}");
+    }
+    Ok(())
+}
+
+#[test]
+fn white_space_and_comments_are_free(rt: HostRuntime) -> Result<(), Fail> {
+    let alloc = rt.alloc();
+    let cases = [
+        (" ", "\n\t"),
+        ("\n", ""),
+        ("module M", "/* of\n two */module M// ints\n"),
+        ("(int a, int b)", "( int a,int b\r\n)"),
+        ("}; };\n", "};};\n\n"),
     ];
     for (old, new) in cases {
         let interface = CALC.replace(alloc, old, new)?;
         let (status, text) = ran(alloc, FIRST, &interface)?;
-        assert_eq!(rt; status, Status::Refused, "at {new}");
-        assert_eq!(rt; text.as_str(), "refused calc.tars parse 5 0\n", "at {new}");
+        assert_eq!(rt; status, Status::Done, "at {new}");
+        assert_eq!(rt; text.as_str(), REPORT, "at {new}");
     }
     Ok(())
 }
