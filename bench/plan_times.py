@@ -2,7 +2,7 @@
 """Times `plan` on scripts of 512 to 4,096 calls with mixed events.
 
 Prints, for each length, the best of the runs in seconds, and its ratio to the length before.
-Needs the built program: run ./tars_tool once before.
+Needs the built program: run rt ci once before.
 """
 
 import pathlib
@@ -48,7 +48,7 @@ def best_time(folder: pathlib.Path, calls: int) -> float:
 
 def main() -> None:
     if not PROGRAM.exists():
-        sys.exit("the program is not built: run ./tars_tool once")
+        sys.exit("the program is not built: run rt ci once")
     with tempfile.TemporaryDirectory() as name:
         folder = pathlib.Path(name)
         (folder / "calc.tars").write_text(INTERFACE)

@@ -1,0 +1,203 @@
+//! A tree in short: the file once more without white space, comments and needless signs. A basic
+//! type and a literal stand by the name of their variant, and behind `@` is the place of a word that
+//! the tree keeps as a place.
+
+use idl_parse::Span;
+use idl_parse::tree::*;
+use std::alloc::{AllocError, Global};
+use std::str;
+
+/// The bytes of a place.
+fn word<'a>(text: &'a [u8], place: Span) -> &'a str {
+    let bytes = text
+        .get(place.start as usize..place.end as usize)
+        .unwrap_or(&[]);
+    str::from_utf8(bytes).unwrap_or("?")
+}
+
+fn name_of(alloc: Global, text: &[u8], name: &ScopedName) -> Result<String, AllocError> {
+    let first = word(text, name.first);
+    match name.second {
+        Some(second) => {
+            let second = word(text, second);
+            format!(in alloc; "{first}::{second}")
+        }
+        None => String::from_str(alloc, first),
+    }
+}
+
+fn type_of(alloc: Global, text: &[u8], ty: &TypeTree) -> Result<String, AllocError> {
+    match ty {
+        TypeTree::Basic { basic, .. } => format!(in alloc; "{basic:?}"),
+        TypeTree::Named(name) => name_of(alloc, text, name),
+        TypeTree::Vector { of, .. } => {
+            let of = type_of(alloc, text, of.get())?;
+            format!(in alloc; "vector<{of}>")
+        }
+        TypeTree::Map { key, value, .. } => {
+            let key = type_of(alloc, text, key.get())?;
+            let value = type_of(alloc, text, value.get())?;
+            format!(in alloc; "map<{key},{value}>")
+        }
+    }
+}
+
+fn typed_of(alloc: Global, text: &[u8], typed: &TypedName) -> Result<String, AllocError> {
+    let ty = type_of(alloc, text, &typed.ty)?;
+    let name = word(text, typed.name);
+    format!(in alloc; "{ty} {name}")
+}
+
+fn literal_of(alloc: Global, text: &[u8], literal: &Literal) -> Result<String, AllocError> {
+    match literal {
+        Literal::Word { word: kind, place } => {
+            let bytes = word(text, *place);
+            format!(in alloc; "={kind:?} {bytes}")
+        }
+        Literal::Named(name) => {
+            let name = name_of(alloc, text, name)?;
+            format!(in alloc; "={name}")
+        }
+    }
+}
+
+fn array_of(alloc: Global, text: &[u8], array: &Option<ArrayLen>) -> Result<String, AllocError> {
+    match array {
+        Some(array) => {
+            let length = word(text, array.length);
+            let at = array.at;
+            format!(in alloc; "[{length}]@{at}")
+        }
+        None => Ok(String::new(alloc)),
+    }
+}
+
+fn member_of(alloc: Global, text: &[u8], member: &MemberTree) -> Result<String, AllocError> {
+    let tag = word(text, member.tag);
+    let need = if member.require {
+        "require"
+    } else {
+        "optional"
+    };
+    let typed = typed_of(alloc, text, &member.typed)?;
+    let array = array_of(alloc, text, &member.array)?;
+    let default = match &member.default {
+        Some(literal) => literal_of(alloc, text, literal)?,
+        None => String::new(alloc),
+    };
+    format!(in alloc; "{tag} {need} {typed}{array}{default};")
+}
+
+fn struct_of(alloc: Global, text: &[u8], tree: &StructTree) -> Result<String, AllocError> {
+    let name = word(text, tree.name);
+    let mut all = format!(in alloc; "struct {name}{{")?;
+    for member in tree.members.as_slice() {
+        let one = member_of(alloc, text, member)?;
+        all.push_str(&one)?;
+    }
+    all.push_str("};")?;
+    Ok(all)
+}
+
+fn enum_of(alloc: Global, text: &[u8], tree: &EnumTree) -> Result<String, AllocError> {
+    let name = word(text, tree.name);
+    let mut all = format!(in alloc; "enum {name}{{")?;
+    for item in tree.items.as_slice() {
+        all.push_str(word(text, item.name))?;
+        if let Some(number) = item.number {
+            all.push_str("=")?;
+            all.push_str(word(text, number))?;
+        }
+        all.push_str(",")?;
+    }
+    all.push_str("};")?;
+    Ok(all)
+}
+
+fn key_of(alloc: Global, text: &[u8], tree: &KeyTree) -> Result<String, AllocError> {
+    let of = word(text, tree.of);
+    let mut all = format!(in alloc; "key {of}[")?;
+    for member in tree.members.as_slice() {
+        all.push_str(word(text, *member))?;
+        all.push_str(",")?;
+    }
+    all.push_str("];")?;
+    Ok(all)
+}
+
+fn param_of(alloc: Global, text: &[u8], param: &ParamTree) -> Result<String, AllocError> {
+    let routekey = match param.routekey {
+        Some(at) => format!(in alloc; "routekey@{at} ")?,
+        None => String::new(alloc),
+    };
+    let out = if param.out { "out " } else { "" };
+    let typed = typed_of(alloc, text, &param.typed)?;
+    format!(in alloc; "{routekey}{out}{typed},")
+}
+
+fn func_of(alloc: Global, text: &[u8], func: &FuncTree) -> Result<String, AllocError> {
+    let ret = match &func.ret {
+        Some(ty) => type_of(alloc, text, ty)?,
+        None => String::from_str(alloc, "void")?,
+    };
+    let name = word(text, func.name);
+    let mut all = format!(in alloc; "{ret} {name}(")?;
+    for param in func.params.as_slice() {
+        let one = param_of(alloc, text, param)?;
+        all.push_str(&one)?;
+    }
+    all.push_str(");")?;
+    Ok(all)
+}
+
+fn interface_of(alloc: Global, text: &[u8], tree: &InterfaceTree) -> Result<String, AllocError> {
+    let name = word(text, tree.name);
+    let mut all = format!(in alloc; "interface {name}{{")?;
+    for func in tree.funcs.as_slice() {
+        let one = func_of(alloc, text, func)?;
+        all.push_str(&one)?;
+    }
+    all.push_str("};")?;
+    Ok(all)
+}
+
+fn decl_of(alloc: Global, text: &[u8], decl: &DeclTree) -> Result<String, AllocError> {
+    match decl {
+        DeclTree::Struct(tree) => struct_of(alloc, text, tree),
+        DeclTree::Enum(tree) => enum_of(alloc, text, tree),
+        DeclTree::Const(tree) => {
+            let typed = typed_of(alloc, text, &tree.typed)?;
+            let value = literal_of(alloc, text, &tree.value)?;
+            format!(in alloc; "const {typed}{value};")
+        }
+        DeclTree::Key(tree) => key_of(alloc, text, tree),
+        DeclTree::Interface(tree) => interface_of(alloc, text, tree),
+    }
+}
+
+fn module_of(alloc: Global, text: &[u8], tree: &ModuleTree) -> Result<String, AllocError> {
+    let name = word(text, tree.name);
+    let mut all = format!(in alloc; "module {name}{{")?;
+    for decl in tree.decls.as_slice() {
+        let one = decl_of(alloc, text, decl)?;
+        all.push_str(&one)?;
+    }
+    all.push_str("};")?;
+    Ok(all)
+}
+
+/// What a text has, by the tree that it was read as.
+pub fn shape_of(alloc: Global, text: &[u8], entries: &[Entry]) -> Result<String, AllocError> {
+    let mut all = String::new(alloc);
+    for entry in entries {
+        let one = match entry {
+            Entry::Include(place) => {
+                let name = word(text, *place);
+                format!(in alloc; "include {name};")?
+            }
+            Entry::Module(tree) => module_of(alloc, text, tree)?,
+        };
+        all.push_str(&one)?;
+    }
+    Ok(all)
+}
