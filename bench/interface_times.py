@@ -6,14 +6,11 @@ seconds, and its ratio to the length before. Needs the built program: run rt ci 
 """
 
 import pathlib
-import subprocess
-import sys
 import tempfile
-import time
 
-RUNS = 5
+from timing import best_time, print_rows, program
+
 KIBIBYTES = [64, 128, 256, 512, 1024]
-PROGRAM = pathlib.Path(__file__).resolve().parent.parent / "crates" / "tars_tool" / "out" / "tars_tool"
 SCRIPT = """client big.tars
 interface M::Calc
 object A.B.C@tcp -h 127.0.0.1 -p 9001 -t 3000
@@ -48,30 +45,13 @@ def interface_of(length: int) -> str:
     return "".join(parts) + " " * left + END
 
 
-def best_time(folder: pathlib.Path, length: int) -> float:
-    (folder / "big.tars").write_text(interface_of(length))
-    times = []
-    for _ in range(RUNS):
-        start = time.perf_counter()
-        done = subprocess.run([PROGRAM, "plan", "big.plan"], cwd=folder, capture_output=True, check=False)
-        times.append(time.perf_counter() - start)
-        if done.stdout != REFUSAL:
-            sys.exit(f"a file of {length} bytes gave {done.stdout!r}")
-    return min(times)
+def times(folder: pathlib.Path):
+    plan = program("tars_tool")
+    (folder / "big.plan").write_text(SCRIPT)
+    for kibibytes in KIBIBYTES:
+        (folder / "big.tars").write_text(interface_of(kibibytes * 1024))
+        yield f"{kibibytes:5} KiB", best_time([plan, "plan", "big.plan"], folder, REFUSAL), ""
 
 
-def main() -> None:
-    if not PROGRAM.exists():
-        sys.exit("the program is not built: run rt ci once")
-    with tempfile.TemporaryDirectory() as name:
-        folder = pathlib.Path(name)
-        (folder / "big.plan").write_text(SCRIPT)
-        before = None
-        for kibibytes in KIBIBYTES:
-            seconds = best_time(folder, kibibytes * 1024)
-            ratio = "" if before is None else f"  ratio {seconds / before:.2f}"
-            print(f"{kibibytes:5} KiB  {seconds:.4f} s{ratio}")
-            before = seconds
-
-
-main()
+with tempfile.TemporaryDirectory() as name:
+    print_rows(times(pathlib.Path(name)))

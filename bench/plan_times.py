@@ -6,14 +6,11 @@ Needs the built program: run rt ci once before.
 """
 
 import pathlib
-import subprocess
-import sys
 import tempfile
-import time
 
-RUNS = 5
+from timing import best_time, print_rows, program
+
 LENGTHS = [512, 1024, 2048, 4096]
-PROGRAM = pathlib.Path(__file__).resolve().parent.parent / "crates" / "tars_tool" / "out" / "tars_tool"
 INTERFACE = "module M { interface Calc { int add(int a, int b); }; };\n"
 HEADER = """client calc.tars
 interface M::Calc
@@ -33,31 +30,15 @@ def script_of(calls: int) -> str:
     return "".join(parts)
 
 
-def best_time(folder: pathlib.Path, calls: int) -> float:
-    script = folder / f"{calls}.plan"
-    script.write_text(script_of(calls))
-    times = []
-    for _ in range(RUNS):
-        start = time.perf_counter()
-        done = subprocess.run([PROGRAM, "plan", script.name], cwd=folder, capture_output=True, check=True)
-        times.append(time.perf_counter() - start)
-        if f"done calls {calls} two-way {calls} one-way 0" not in done.stdout.decode():
-            sys.exit(f"the report of {calls} calls is not whole")
-    return min(times)
+def times(folder: pathlib.Path):
+    plan = program("tars_tool")
+    (folder / "calc.tars").write_text(INTERFACE)
+    for calls in LENGTHS:
+        script = folder / f"{calls}.plan"
+        script.write_text(script_of(calls))
+        done = f"done calls {calls} two-way {calls} one-way 0".encode()
+        yield f"{calls:5} calls", best_time([plan, "plan", script.name], folder, done), ""
 
 
-def main() -> None:
-    if not PROGRAM.exists():
-        sys.exit("the program is not built: run rt ci once")
-    with tempfile.TemporaryDirectory() as name:
-        folder = pathlib.Path(name)
-        (folder / "calc.tars").write_text(INTERFACE)
-        before = None
-        for calls in LENGTHS:
-            seconds = best_time(folder, calls)
-            ratio = "" if before is None else f"  ratio {seconds / before:.2f}"
-            print(f"{calls:5} calls  {seconds:.4f} s{ratio}")
-            before = seconds
-
-
-main()
+with tempfile.TemporaryDirectory() as name:
+    print_rows(times(pathlib.Path(name)))

@@ -6,14 +6,11 @@ second. The time of a run on an empty file is taken off. Needs the built program
 """
 
 import pathlib
-import subprocess
-import sys
 import tempfile
-import time
 
-RUNS = 5
+from timing import best_time, print_rows, program
+
 MEBIBYTES = [1.25, 2.5, 5, 10]
-PROGRAM = pathlib.Path(__file__).resolve().parent.parent / "crates" / "law_tables" / "out" / "law_tables"
 # struct { 1: int1 2, 2: string1 "abc", 3: map { "k": zero } }
 ELEMENT = bytes.fromhex("0A" "1002" "2603616263" "38000106016B1C" "0B")
 
@@ -24,32 +21,19 @@ def body_of(length: int) -> bytes:
     return b"\x09\x02" + count.to_bytes(4, "big") + ELEMENT * count
 
 
-def best_time(folder: pathlib.Path, body: bytes) -> float:
+def time_of(folder: pathlib.Path, body: bytes) -> float:
     (folder / "big.body").write_bytes(body)
     wanted = f"big.body: a body of {len(body)} bytes\n".encode()
-    times = []
-    for _ in range(RUNS):
-        start = time.perf_counter()
-        done = subprocess.run([PROGRAM, "big.body"], cwd=folder, capture_output=True, check=True)
-        times.append(time.perf_counter() - start)
-        if done.stdout != wanted:
-            sys.exit(f"a body of {len(body)} bytes gave {done.stdout!r}")
-    return min(times)
+    return best_time([program("law_tables"), "big.body"], folder, wanted)
 
 
-def main() -> None:
-    if not PROGRAM.exists():
-        sys.exit("the program is not built: run rt ci once")
-    with tempfile.TemporaryDirectory() as name:
-        folder = pathlib.Path(name)
-        empty = best_time(folder, b"")
-        before = None
-        for mebibytes in MEBIBYTES:
-            body = body_of(int(mebibytes * 2**20))
-            seconds = best_time(folder, body) - empty
-            ratio = "" if before is None else f"  ratio {seconds / before:.2f}"
-            print(f"{mebibytes:5} MiB  {seconds:.4f} s  {len(body) / 2**20 / seconds:.0f} MiB/s{ratio}")
-            before = seconds
+def times(folder: pathlib.Path):
+    empty = time_of(folder, b"")
+    for mebibytes in MEBIBYTES:
+        body = body_of(int(mebibytes * 2**20))
+        seconds = time_of(folder, body) - empty
+        yield f"{mebibytes:5} MiB", seconds, f"  {len(body) / 2**20 / seconds:.0f} MiB/s"
 
 
-main()
+with tempfile.TemporaryDirectory() as name:
+    print_rows(times(pathlib.Path(name)))
