@@ -22,7 +22,7 @@ impl<'a> Model for Checked<'a> {
 }
 
 impl<'a> Checked<'a> {
-    pub fn new(bytes: &'a [u8]) -> Checked<'a>
+    pub(crate) fn new(bytes: &'a [u8]) -> Checked<'a>
         requires { IsBody bytes.now }
         ensures { result ≡ bytes.now }
     {

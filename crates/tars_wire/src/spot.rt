@@ -5,6 +5,9 @@ use crate::head::{FirstByte, Head};
 use crate::wire_fault::WireWhy;
 use crate::wire_type::WireType;
 
+/// How many lists, maps and structs may stand inside one another.
+pub const MOST_OPEN: u8 = 64;
+
 /// The high four bits of a head whose tag is in a byte of its own.
 const LONG_FORM: u8 = 15;
 

@@ -9,13 +9,11 @@ use super::levels::{next_head, past_level};
 use super::pieces::{enter_level, past_value, peek_head, peek_number, peek_simple, peek_text};
 use crate::head::Head;
 use crate::level::Level;
-
-/// How many lists, maps and structs may stand inside one another.
-const MOST_OPEN: u8 = 64;
+use crate::spot::MOST_OPEN;
 
 impl<'a> Cursor<'a> {
     /// A walk over the fields of a body.
-    pub fn over(bytes: &'a [u8]) -> Cursor<'a>
+    pub(crate) fn over(bytes: &'a [u8]) -> Cursor<'a>
         requires { IsBody bytes.now }
         ensures { (fields : WireFields) → Spelled MOST_DEPTH bytes.now fields → IsLeft result (fields_left fields ∷ []) }
     {

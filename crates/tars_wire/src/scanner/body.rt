@@ -6,12 +6,9 @@ ghost use Rattle.tars_wire.specs.Reading.{Gives, body_at};
 use super::contents::past_contents;
 use super::heads::read_head;
 use crate::checked::Checked;
-use crate::spot::Spot;
+use crate::spot::{MOST_OPEN, Spot};
 use crate::stop::Stop;
 use crate::wire_fault::WireFault;
-
-/// How many lists, maps and structs may stand inside one another.
-const MOST_DEPTH: u8 = 64;
 
 /// To the end of a body.
 fn past_body(bytes: &[u8]) -> Result<(), Stop>
@@ -21,7 +18,7 @@ fn past_body(bytes: &[u8]) -> Result<(), Stop>
     let mut from = 0;
     while !rest.is_empty() {
         let (head, behind) = read_head(Spot::Body { from }, rest)?;
-        rest = past_contents(MOST_DEPTH, head.wire_type, behind)?;
+        rest = past_contents(MOST_OPEN, head.wire_type, behind)?;
         from = u16::from(head.tag) + 1;
     }
     Ok(())
