@@ -28,7 +28,10 @@ fn read_front<R: Read + Drop>(alloc: Global, source: R, most: usize) -> io::Resu
 }
 
 impl<O: Opener> RealFiles<O> {
-    pub fn new(opener: O) -> RealFiles<O> {
+    pub fn new(opener: O) -> RealFiles<O>
+        ensures opener { result.opener ≡ opener }
+        ensures no_faults { result.fault_count ≡ 0 }
+    {
         RealFiles {
             opener,
             fault_count: 0,
