@@ -1,7 +1,8 @@
 #!/usr/bin/env bash
 # Runs the built program where its surroundings are bad: files that can't be read, files at and past their
 # longest size, bytes that are no text, a standard output that is closed or full. Each case has the exit
-# status, the standard output and the standard error that docs/SCRIPTS.md states.
+# status, the standard output and the standard error that docs/SCRIPTS.md states. Then runs the script
+# `tars_tool` at the top, over the built program and without it.
 set -u
 top=$(cd "$(dirname "$0")/.." && pwd)
 program="$top/crates/tars_tool/out/tars_tool"
@@ -31,11 +32,16 @@ judge() {
     fi
 }
 
-# A case whose standard output is kept: name, status, output, error line, then the words.
+# A case whose standard output is kept: name, status, output, error line, then the arguments.
 case_of() {
-    local name=$1 status=$2 out=$3 err=$4
-    shift 4
-    timeout 60 ./tars_tool "$@" >out 2>err </dev/null
+    program_case ./tars_tool "$@"
+}
+
+# The same of another program: its path first.
+program_case() {
+    local program=$1 name=$2 status=$3 out=$4 err=$5
+    shift 5
+    timeout 300 "$program" "$@" >out 2>err </dev/null
     echo $? >status
     judge "$name" "$status" "$out" "$err"
 }
@@ -76,12 +82,12 @@ none='done calls 0 two-way 0 one-way 0'
 echo "$calc" >calc.tars
 { header 127.0.0.1; printf 'call 1 add 2 3\nserve 1\nwork 1\ndeliver 1\n'; } >first.plan
 
-# Words.
+# Arguments.
 case_of 'a script is run' 0 "$report" '' plan first.plan
-case_of 'no word' 2 '' "$usage"
+case_of 'no argument' 2 '' "$usage"
 case_of 'an unknown command' 2 '' "$usage" paln first.plan
-case_of 'a word that is no text' 2 '' "$usage" plan $'\xff.plan'
-case_of 'an empty word' 2 '' "$usage" plan ''
+case_of 'an argument that is no text' 2 '' "$usage" plan $'\xff.plan'
+case_of 'an empty argument' 2 '' "$usage" plan ''
 
 # Scripts that can't be read, or hold no script.
 mkdir folder
@@ -160,6 +166,34 @@ for plan in first late too_large refused typo; do
     case $plan in refused | typo) status=1 ;; esac
     case_of "examples/$plan.plan" "$status" "$shown" '' plan "$plan.plan"
 done
+
+# The script at the top, by a symbolic link, over the built program: any name of a file will do.
+ln -s "$top/tars_tool" linked
+mkdir -p folder/idl
+cp calc.tars folder/idl/.hidden.tars
+sed 's#^client .*#client folder/idl/.hidden.tars#' first.plan >folder/nested.plan
+cp first.plan a=b.plan
+cp first.plan program
+program_case ./linked 'a linked script runs the built program' 0 "$report" '' plan first.plan
+program_case ./linked 'files in folders' 0 "$report" '' plan folder/nested.plan
+program_case ./linked 'an absolute name' 0 "$report" '' plan "$work/first.plan"
+program_case ./linked 'a name with an equals sign' 0 "$report" '' plan a=b.plan
+program_case ./linked 'usage by the linked script' 2 '' "$usage" --help
+
+# A copy of it beside which nothing is built: usage is told at once, the rest by a program that is compiled.
+mkdir unbuilt
+cp "$top/tars_tool" "$top/crates.txt" unbuilt/
+note='tars_tool: not proved yet, so compiled for this run alone; it reads files below this folder only (rt ci proves and builds it)'
+program_case unbuilt/tars_tool 'usage before the proof' 2 '' "$usage" plan first.plan more
+program_case unbuilt/tars_tool 'a name that only the proved program reads' 125 '' "$note
+tars_tool: a=b.plan can be read by the proved program alone" plan a=b.plan
+PATH=/usr/bin:/bin program_case unbuilt/tars_tool 'no toolchain' 125 '' \
+    "tars_tool: the toolchain's command rt is not on the path, and the program is not built" plan first.plan
+(cd "$top" && find crates -path '*/out' -prune -o -type f -print0 | xargs -0 cp --parents -t "$work/unbuilt")
+timeout 300 unbuilt/tars_tool plan folder/nested.plan >out 2>err </dev/null
+echo $? >status
+head -n 1 err >first && mv first err
+judge 'a run before the proof' 0 "$report" "$note"
 
 echo "$passed passed, $failed failed"
 [ "$failed" -eq 0 ]
