@@ -4,20 +4,17 @@ ghost use Rattle.std.specs.Prelude.{◌≡◌};
 /// Memory ran out.
 pub use std::alloc::AllocError as Memory;
 use std::alloc::AllocFailed;
-use thiserror::Error;
 
 /// A call on the outside failed. Its object has counted a fault.
-#[derive(Clone, Copy, Debug, PartialEq, Eq, Error)]
-#[error("failed")]
+#[derive(Clone, Copy, Debug, PartialEq, Eq)]
 pub struct Failed;
 
 /// Why a file was not read.
-#[derive(Clone, Copy, Debug, PartialEq, Eq, Error)]
+#[derive(Clone, Copy, Debug, PartialEq, Eq)]
 pub enum ReadFault {
     /// The read failed, or there is no such file. The object has counted a fault.
-    #[error("read fault")]
     Failed,
-    #[error("no memory")]
+    /// Memory ran out.
     Memory,
 }
 

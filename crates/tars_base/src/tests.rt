@@ -38,6 +38,25 @@ fn a_read_gives_a_front_or_its_fault(rt: HostRuntime) -> Result<(), Fail> {
 }
 
 #[test]
+fn long_texts_are_read_and_written(rt: HostRuntime) -> Result<(), Fail> {
+    let alloc = rt.alloc();
+    let text = vec![in alloc; b'x'; 1048577]?;
+    let mut files = MemFiles::new(
+        vec![in alloc; file(alloc, "long", &text)?]?,
+        Vec::new(alloc),
+    );
+    // the most bytes of a read, and how many are read and written
+    for (most, len) in [(1048576, 1048576), (1048577, 1048577), (1048578, 1048577)] {
+        let read = files.read(alloc, "long", most)?;
+        let mut sink = MemSink::new(alloc, 1000, Vec::new(alloc));
+        sink.reserve(alloc, len)?;
+        assert_eq!(rt; write_all(&mut sink, &read), Ok(()), "at {most}");
+        assert_eq!(rt; sink.bytes().len(), len, "at {most}");
+    }
+    Ok(())
+}
+
+#[test]
 fn what_is_written_is_a_front_of_the_text(rt: HostRuntime) -> Result<(), Fail> {
     let alloc = rt.alloc();
     // the most bytes of a write, the room, the write that fails, what comes of `hello`

@@ -6,6 +6,10 @@ use Rattle.tars_model.specs.declared.member.Member.{Member}
 use Rattle.tars_model.specs.declared.ty.Ty.{Ty}
 use Rattle.tars_model.specs.declared.value.Value.{Num}
 
+-- how many parameters a function may have
+abbrev pub MAX_PARAMS : ℕ
+MAX_PARAMS = 64
+
 -- a required member; nothing reads its default
 abbrev pub required : ℕ → Ty → List ℕ → Member
 required tag ty name = record { tag = tag; require = true; ty = ty; name = name; default = Num (pos 0) }

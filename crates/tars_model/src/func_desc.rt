@@ -1,11 +1,8 @@
 ghost use Rattle.std.specs.Prelude.{◌≡◌, ◌≤◌, ◌++◌, length, IfOk, OnOk};
-ghost use Rattle.tars_model.specs.Members.{required, params_from, arguments_of, reply_members_of};
+ghost use Rattle.tars_model.specs.Members.{MAX_PARAMS, required, params_from, arguments_of, reply_members_of};
 
 use crate::{List, Member, Name, Ty, Value};
 use std::alloc::{AllocError, Global};
-
-/// How many parameters a function may have.
-pub const MAX_PARAMS: usize = 64;
 
 /// A parameter of a function.
 #[derive(Debug, Drop)]

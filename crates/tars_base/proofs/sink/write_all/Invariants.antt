@@ -1,10 +1,10 @@
-use Rattle.std.proofs.Common.{◌≤◌, length}
+use Rattle.std.proofs.Common.{◌≡◌, length}
 use Rattle.tars_base.proofs.Owing.{Owes}
 use Rattle.tars_base.proofs.sink.write_all.Given as goal
 
 abbrev pub invariant-loop-rest : goal.invariant-loop-rest
 invariant-loop-rest g l = record {
-  later : g.S.Sink.faults l.initial.out ≤ g.S.Sink.faults l.out;
+  kept : g.S.Sink.faults l.out ≡ g.S.Sink.faults l.initial.out;
   owes : Owes (g.S.Sink.written l.initial.out) (g.S.Sink.written l.out) l.text l.rest;
 }
 
