@@ -118,7 +118,7 @@ fn number(cursor: &mut Cursor<'_>) -> Option<i64>
     ensures { HasEntered cursor.old → HasEntered cursor.new }
 {
     let head = cursor.head()?;
-    match head.wire_type {
+    match head.kind {
         WireType::ZeroTag => Some(cursor.number()),
         WireType::Int1 => Some(cursor.number()),
         WireType::Int2 => Some(cursor.number()),
@@ -134,7 +134,7 @@ fn text<'a>(cursor: &mut Cursor<'a>) -> Option<&'a [u8]>
     ensures { HasEntered cursor.old → HasEntered cursor.new }
 {
     let head = cursor.head()?;
-    match head.wire_type {
+    match head.kind {
         WireType::String1 => Some(cursor.text()),
         WireType::String4 => Some(cursor.text()),
         _ => None,
@@ -147,7 +147,7 @@ fn simple<'a>(cursor: &mut Cursor<'a>) -> Option<&'a [u8]>
     ensures { HasEntered cursor.old → HasEntered cursor.new }
 {
     let head = cursor.head()?;
-    match head.wire_type {
+    match head.kind {
         WireType::SimpleList => Some(cursor.simple()),
         _ => None,
     }
@@ -169,7 +169,7 @@ fn enter(cursor: &mut Cursor<'_>) -> Option<u32>
     ensures { IsSome result → HasEntered cursor.new }
 {
     let head = cursor.head()?;
-    match head.wire_type {
+    match head.kind {
         WireType::List => Some(cursor.enter()),
         WireType::Map => Some(cursor.enter()),
         WireType::StructBegin => Some(cursor.enter()),
@@ -230,14 +230,14 @@ fn numbers_and_texts_are_handed_out(rt: HostRuntime) {
                 cursor.head(),
                 Some(Head {
                     tag: 255,
-                    wire_type: WireType::Int1
+                    kind: WireType::Int1
                 })
             );
             assert_eq!(rt; number(&mut cursor), Some(5));
             assert_eq!(rt; cursor.head(), None);
             assert_eq!(rt; checked.bytes().len(), 34);
         }
-        Err(fault) => assert!(rt; false, "{fault}"),
+        Err(fault) => assert!(rt; false, "{fault:?}"),
     }
 }
 
@@ -265,12 +265,12 @@ fn lists_maps_and_structs_are_entered_and_left(rt: HostRuntime) {
             }
             let double = Head {
                 tag: 2,
-                wire_type: WireType::Double,
+                kind: WireType::Double,
             };
             assert_eq!(rt; skip(&mut cursor), Some(double));
             assert_eq!(rt; number(&mut cursor), Some(9));
             assert_eq!(rt; cursor.head(), None);
         }
-        Err(fault) => assert!(rt; false, "{fault}"),
+        Err(fault) => assert!(rt; false, "{fault:?}"),
     }
 }

@@ -1,29 +1,21 @@
 ghost use Rattle.std.specs.Prelude.{◌≡◌};
 ghost use Rattle.tars_wire.specs.Faults.{number_of};
 
-use thiserror::Error;
-
 /// Why bytes are no body.
-#[derive(Clone, Copy, Debug, PartialEq, Eq, Error)]
+#[derive(Clone, Copy, Debug, PartialEq, Eq)]
 pub enum WireWhy {
     /// The bytes end inside a body.
-    #[error("short")]
     Short,
     /// Types 14 and 15, a struct's end where no struct ends, or a type that no size, or no simple list,
     /// begins with.
-    #[error("bad type")]
     BadType,
     /// A negative size.
-    #[error("bad size")]
     BadSize,
     /// A wrong tag on a size, an element, a key, a map's value, a simple list's own head or a struct's end.
-    #[error("bad tag")]
     BadTag,
     /// A tag that is not above the one before it.
-    #[error("order")]
     Order,
     /// More lists, maps and structs inside one another than 64.
-    #[error("depth")]
     Depth,
 }
 
@@ -44,8 +36,7 @@ impl WireWhy {
 }
 
 /// The first byte after which nothing makes the bytes a body, counted from 0.
-#[derive(Clone, Copy, Debug, PartialEq, Eq, Error)]
-#[error("{why} at {at}")]
+#[derive(Clone, Copy, Debug, PartialEq, Eq)]
 pub struct WireFault {
     /// The number of bytes before it. All of them for `Short`.
     pub at: u32,
