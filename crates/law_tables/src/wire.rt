@@ -8,11 +8,11 @@ use std::test::*;
 use tars_wire::{Cursor, Head, WireFault, WireType, WireWhy, scan};
 
 /// The most bytes that the tests scan.
-const MOST: usize = 1000;
+const MAX_LEN: usize = 200_000;
 
 /// The number and the place of the fault, or None for a body.
 fn fault_of(bytes: &[u8]) -> Option<(u8, u32)> {
-    if bytes.len() > MOST {
+    if bytes.len() > MAX_LEN {
         return None;
     }
     match scan(bytes) {
@@ -86,6 +86,11 @@ fn what_writers_write_is_a_body(rt: HostRuntime) -> Result<(), Fail> {
     let long = repeated(alloc, 256, b"x", &[])?;
     let long = repeated(alloc, 1, &[0x07, 0x00, 0x00, 0x01, 0x00], long.as_slice())?;
     assert_eq!(rt; fault_of(long.as_slice()), None);
+    // 100,000 elements
+    let list = repeated(alloc, 100_000, &[0x0C], &[])?;
+    let head = [0x09, 0x02, 0x00, 0x01, 0x86, 0xA0];
+    let list = repeated(alloc, 1, &head, list.as_slice())?;
+    assert_eq!(rt; fault_of(list.as_slice()), None);
     Ok(())
 }
 
@@ -237,7 +242,7 @@ fn numbers_and_texts_are_handed_out(rt: HostRuntime) {
             assert_eq!(rt; cursor.head(), None);
             assert_eq!(rt; checked.bytes().len(), 34);
         }
-        Err(fault) => assert!(rt; false, "{fault:?}"),
+        Err(fault) => assert!(rt; false, "{fault}"),
     }
 }
 
@@ -271,6 +276,6 @@ fn lists_maps_and_structs_are_entered_and_left(rt: HostRuntime) {
             assert_eq!(rt; number(&mut cursor), Some(9));
             assert_eq!(rt; cursor.head(), None);
         }
-        Err(fault) => assert!(rt; false, "{fault:?}"),
+        Err(fault) => assert!(rt; false, "{fault}"),
     }
 }

@@ -1,5 +1,6 @@
 -- The fault of bytes that are no body (docs/PROTOCOL.md, "The place of a fault").
-use Rattle.std.specs.Prelude.{◌≡◌, ◌<◌, ℕ, suc, List, length, take}
+use Rattle.std.specs.Prelude.{◌≡◌, ◌<◌, ℕ, suc, List, ◌++◌, length, take, codes}
+use Rattle.std.specs.Fmt.{decimal}
 use Rattle.longest_front.specs.Fronts.{Begins, FaultAt}
 use Rattle.tars_wire.specs.declared.wire_fault.WireWhy.{WireWhy}
 use Rattle.tars_wire.specs.declared.wire_fault.WireWhy.TheVariants as why
@@ -42,3 +43,15 @@ number_of why.BadSize = 3
 number_of why.BadTag = 4
 number_of why.Order = 5
 number_of why.Depth = 6
+
+-- its word, and a fault in words
+abbrev pub word_of : WireWhy → List ℕ
+word_of why.Short = codes "short"
+word_of why.BadType = codes "bad type"
+word_of why.BadSize = codes "bad size"
+word_of why.BadTag = codes "bad tag"
+word_of why.Order = codes "order"
+word_of why.Depth = codes "depth"
+
+abbrev pub words_of : WireFault → List ℕ
+words_of fault = word_of fault.why ++ codes " at " ++ decimal fault.at

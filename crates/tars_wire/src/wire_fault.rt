@@ -1,5 +1,7 @@
-ghost use Rattle.std.specs.Prelude.{◌≡◌};
-ghost use Rattle.tars_wire.specs.Faults.{number_of};
+ghost use Rattle.std.specs.Prelude.{◌≡◌, Some};
+ghost use Rattle.tars_wire.specs.Faults.{number_of, word_of, words_of};
+
+use std::fmt;
 
 /// Why bytes are no body.
 #[derive(Clone, Copy, Debug, PartialEq, Eq)]
@@ -35,10 +37,34 @@ impl WireWhy {
     }
 }
 
+impl fmt::Display for WireWhy {
+    ghost output = { λ why. Some (word_of why) };
+
+    fn fmt<W: fmt::Write>(&self, f: &mut fmt::Formatter<W>) -> fmt::Result {
+        f.write_str(match self {
+            WireWhy::Short => "short",
+            WireWhy::BadType => "bad type",
+            WireWhy::BadSize => "bad size",
+            WireWhy::BadTag => "bad tag",
+            WireWhy::Order => "order",
+            WireWhy::Depth => "depth",
+        })
+    }
+}
+
 /// The first byte after which nothing makes the bytes a body, counted from 0.
 #[derive(Clone, Copy, Debug, PartialEq, Eq)]
 pub struct WireFault {
     /// The number of bytes before it. All of them for `Short`.
     pub at: u32,
     pub why: WireWhy,
+}
+
+impl fmt::Display for WireFault {
+    ghost output = { λ fault. Some (words_of fault) };
+
+    fn fmt<W: fmt::Write>(&self, f: &mut fmt::Formatter<W>) -> fmt::Result {
+        let WireFault { at, why } = self;
+        write!(f, "{why} at {at}")
+    }
 }
