@@ -8,11 +8,11 @@ use std::test::*;
 use tars_wire::{Cursor, Head, WireFault, WireType, WireWhy, scan};
 
 /// The most bytes that the tests scan.
-const MOST: usize = 1000;
+const MAX_LEN: usize = 200_000;
 
 /// The number and the place of the fault, or None for a body.
 fn fault_of(bytes: &[u8]) -> Option<(u8, u32)> {
-    if bytes.len() > MOST {
+    if bytes.len() > MAX_LEN {
         return None;
     }
     match scan(bytes) {
@@ -86,6 +86,11 @@ fn what_writers_write_is_a_body(rt: HostRuntime) -> Result<(), Fail> {
     let long = repeated(alloc, 256, b"x", &[])?;
     let long = repeated(alloc, 1, &[0x07, 0x00, 0x00, 0x01, 0x00], long.as_slice())?;
     assert_eq!(rt; fault_of(long.as_slice()), None);
+    // 100,000 elements
+    let list = repeated(alloc, 100_000, &[0x0C], &[])?;
+    let head = [0x09, 0x02, 0x00, 0x01, 0x86, 0xA0];
+    let list = repeated(alloc, 1, &head, list.as_slice())?;
+    assert_eq!(rt; fault_of(list.as_slice()), None);
     Ok(())
 }
 
@@ -118,7 +123,7 @@ fn number(cursor: &mut Cursor<'_>) -> Option<i64>
     ensures { HasEntered cursor.old → HasEntered cursor.new }
 {
     let head = cursor.head()?;
-    match head.wire_type {
+    match head.kind {
         WireType::ZeroTag => Some(cursor.number()),
         WireType::Int1 => Some(cursor.number()),
         WireType::Int2 => Some(cursor.number()),
@@ -134,7 +139,7 @@ fn text<'a>(cursor: &mut Cursor<'a>) -> Option<&'a [u8]>
     ensures { HasEntered cursor.old → HasEntered cursor.new }
 {
     let head = cursor.head()?;
-    match head.wire_type {
+    match head.kind {
         WireType::String1 => Some(cursor.text()),
         WireType::String4 => Some(cursor.text()),
         _ => None,
@@ -147,7 +152,7 @@ fn simple<'a>(cursor: &mut Cursor<'a>) -> Option<&'a [u8]>
     ensures { HasEntered cursor.old → HasEntered cursor.new }
 {
     let head = cursor.head()?;
-    match head.wire_type {
+    match head.kind {
         WireType::SimpleList => Some(cursor.simple()),
         _ => None,
     }
@@ -169,7 +174,7 @@ fn enter(cursor: &mut Cursor<'_>) -> Option<u32>
     ensures { IsSome result → HasEntered cursor.new }
 {
     let head = cursor.head()?;
-    match head.wire_type {
+    match head.kind {
         WireType::List => Some(cursor.enter()),
         WireType::Map => Some(cursor.enter()),
         WireType::StructBegin => Some(cursor.enter()),
@@ -230,7 +235,7 @@ fn numbers_and_texts_are_handed_out(rt: HostRuntime) {
                 cursor.head(),
                 Some(Head {
                     tag: 255,
-                    wire_type: WireType::Int1
+                    kind: WireType::Int1
                 })
             );
             assert_eq!(rt; number(&mut cursor), Some(5));
@@ -265,7 +270,7 @@ fn lists_maps_and_structs_are_entered_and_left(rt: HostRuntime) {
             }
             let double = Head {
                 tag: 2,
-                wire_type: WireType::Double,
+                kind: WireType::Double,
             };
             assert_eq!(rt; skip(&mut cursor), Some(double));
             assert_eq!(rt; number(&mut cursor), Some(9));

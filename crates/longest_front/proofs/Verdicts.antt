@@ -1,5 +1,6 @@
 -- A machine that reads a language takes exactly its words, and stops at the end of the longest front.
-use Rattle.std.proofs.Common.{◌≡◌, ◌<◌, ◌≤◌, ℕ, zero, suc, Bool, true, false, List, [], ◌∷◌, ◌++◌, length, take, Result, Ok, Err, refl, ap, arith, subst}
+use Rattle.std.proofs.Common.{inl, inr, ◌≡◌, ◌<◌, ◌≤◌, ℕ, zero, suc, Bool, true, false, List, [], ◌∷◌, ◌++◌, length, take, Result, Ok, Err, refl, arith, subst}
+use Rattle.std.proofs.lemmas.Bool.Decides.{leb_tells}
 use Rattle.std.specs.List.{AllByRecursion}
 use Rattle.longest_front.specs.Fronts.{Begins, FaultAt}
 use Rattle.longest_front.specs.Machine.{Course, taken, stopped, one_later, ended, run, Goes, Ends, Reads}
@@ -57,6 +58,15 @@ verdict_of {State} {Letter} {Why} step may_end short Fits L reads state (letter 
     go (Ok to) there back rest = taken_on (L state) (L to) letter word _ there back (rest to)
     go (Err why) there back rest = refused_here (L state) letter word (reads.fill state) there
 
+-- a word has one place of a fault at most
+pub one_place : {Letter : Type 0} (L : List Letter → Type 0) (word : List Letter) (place other : ℕ) → FaultAt L word place → FaultAt L word other → place ≡ other
+one_place L word place other f g =
+    elim (leb_tells (suc place) other) [
+      inl lt ↦ absurd (f.longest other lt.1 g.within g.front)
+    | inr le ↦ elim (leb_tells (suc other) place) [
+        inl lt ↦ absurd (g.longest place lt.1 f.within f.front)
+      | inr ge ↦ omega arith ] ]
+
 -- a word of the language is taken
 pub taken_from_word : {Letter Why : Type 0} (L : List Letter → Type 0) (word : List Letter) (course : Course Why) → Verdict L word course → L word → course ≡ taken
 taken_from_word L word taken v w = refl
@@ -69,34 +79,3 @@ word_from_taken {Letter} {Why} L word course v e = let P : Course Why → Type 0
 -- where it stops is the place of the fault
 pub fault_from_stopped : {Letter Why : Type 0} (L : List Letter → Type 0) (word : List Letter) (course : Course Why) (place : ℕ) (why : Why) → Verdict L word course → course ≡ stopped place why → FaultAt L word place × (L word → ⊥)
 fault_from_stopped {Letter} {Why} L word course place why v e = let P : Course Why → Type 0 = Verdict L word in subst P e v
-
--- How a machine stops: at the end of the word, which is too short, or at a letter that a step refuses.
-pub data Stopping {State Letter Why : Type 0} (step : State → Letter → Result State Why) (short : Why) (total place : ℕ) (why : Why) : Type 0 where
-  at_the_end : place ≡ total → why ≡ short → Stopping step short total place why
-  at_a_letter : (state : State) (letter : Letter) → place < total → step state letter ≡ Err why → Stopping step short total place why
-
-later_stop : {State Letter Why : Type 0} (step : State → Letter → Result State Why) (short : Why) (total place : ℕ) (why : Why) → Stopping step short total place why → Stopping step short (suc total) (suc place) why
-later_stop step short total place why (at_the_end e f) = at_the_end (ap suc e) f
-later_stop step short total place why (at_a_letter state letter lt e) = at_a_letter state letter (omega arith) e
-
--- the course of a machine, said of how it ends
-abbrev pub StopsSo : {State Letter Why : Type 0} → (State → Letter → Result State Why) → Why → ℕ → Course Why → Type 0
-StopsSo step short total taken = Unit {0}
-StopsSo step short total (stopped place why) = Stopping step short total place why
-
-pub stopping : {State Letter Why : Type 0} (step : State → Letter → Result State Why) (may_end : State → Bool) (short : Why) (state : State) (word : List Letter) → StopsSo step short (length word) (run step may_end short state word)
-stopping step may_end short state [] = go (may_end state)
-  where
-    go : (b : Bool) → StopsSo step short 0 (ended b short)
-    go true = tt
-    go false = at_the_end refl refl
-stopping {State} {Letter} {Why} step may_end short state (letter ∷ word) = go (step state letter) refl (λ to. stopping step may_end short to word)
-  where
-    one_more : (course : Course Why) → StopsSo step short (length word) course → StopsSo step short (length (letter ∷ word)) (one_later course)
-    one_more taken x = tt
-    one_more (stopped place why) x = later_stop step short (length word) place why x
-
-    go : (r : Result State Why) → step state letter ≡ r → ((to : State) → StopsSo step short (length word) (run step may_end short to word))
-        → StopsSo step short (length (letter ∷ word)) (elim r [ Ok to ↦ one_later (run step may_end short to word) | Err why ↦ stopped 0 why ])
-    go (Ok to) e rec = one_more (run step may_end short to word) (rec to)
-    go (Err why) e rec = at_a_letter state letter (omega arith) e

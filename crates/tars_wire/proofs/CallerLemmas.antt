@@ -5,7 +5,7 @@ use Rattle.tars_wire.specs.declared.head.Head.{Head}
 use Rattle.tars_wire.specs.Left.{Remaining, skipped, Standing, IsLeft, IsNext, NextIs, HasEntered}
 
 -- what `head` answered has such a type
-pub next_is : (cursor : Standing) (sort : WireType → Bool) (head : Head) → IsNext cursor head → sort head.wire_type ≡ true → NextIs cursor sort
+pub next_is : (cursor : Standing) (sort : WireType → Bool) (head : Head) → IsNext cursor head → sort head.kind ≡ true → NextIs cursor sort
 next_is cursor sort head next is_sort = record { head = head; next = next; is_sort = is_sort }
 
 -- a field further, the same is open

@@ -8,7 +8,7 @@ use Rattle.tars_wire.specs.declared.wire_type.WireType.{WireType}
 use Rattle.tars_wire.specs.declared.head.Head.{Head as ReadHead}
 use Rattle.tars_wire.specs.declared.level.Level.{Level}
 use Rattle.tars_wire.specs.declared.level.Level.TheVariants as level
-use Rattle.tars_wire.specs.Heads.{MOST_DEPTH, opens}
+use Rattle.tars_wire.specs.Heads.{MAX_DEPTH, opens}
 use Rattle.tars_wire.specs.Spelled.{Number, is_zero_tag, is_int1, is_int2, is_int4, is_int8, Contents, is_whole, is_float, is_double, is_string1, is_string4, is_simple_list, is_list, is_map, is_struct, Values, no_more_values, one_value, Pairs, no_more_pairs, one_pair}
 use Rattle.tars_wire.specs.Left.{AtLevel, left_over, Remaining, size_in, all_inside, next_of, head_left, skipped, entered, inside_next, of_next, LevelLeft, Left, levels_around}
 use Rattle.tars_wire.specs.Pieces.{head_front, entered_front, less}
@@ -78,26 +78,26 @@ found_level a b m n x y e = (ap first e, ap second e, ap third e)
     third (Some h) = h.2
 
 module _ (room : ℕ) (l : Level) (levels : List Level) (left : List Remaining) (w : List ℕ) (h : ReadHead)
-    (spelled : Left room (l ∷ levels) left w) (is_next : head_left left ≡ Some h) (is_sort : opens h.wire_type ≡ true)
+    (spelled : Left room (l ∷ levels) left w) (is_next : head_left left ≡ Some h) (is_sort : opens h.kind ≡ true)
     (read : ReadHead) (behind : List ℕ) (is_read : head_front w ≡ Some (read, behind)) where
   the_turn : Turn room l levels left w h
   the_turn = turn room l levels left w h spelled is_next
 
-  the_opens : Opens room the_turn.v h.wire_type the_turn.behind the_turn.mid
+  the_opens : Opens room the_turn.v h.kind the_turn.behind the_turn.mid
   the_opens = opens_of the_turn.contents is_sort
 
-  the_front : entered_front read.wire_type behind ≡ Some (the_opens.here, the_opens.size, the_opens.mid)
+  the_front : entered_front read.kind behind ≡ Some (the_opens.here, the_opens.size, the_opens.mid)
   the_front =
-      ap (λ (k : ReadHead). entered_front k.wire_type behind) (found_first read h behind the_turn.behind (sym is_read ∙ the_turn.front))
-      ∙ (ap (entered_front h.wire_type) (found_second read h behind the_turn.behind (sym is_read ∙ the_turn.front)) ∙ the_opens.front)
+      ap (λ (k : ReadHead). entered_front k.kind behind) (found_first read h behind the_turn.behind (sym is_read ∙ the_turn.front))
+      ∙ (ap (entered_front h.kind) (found_second read h behind the_turn.behind (sym is_read ∙ the_turn.front)) ∙ the_opens.front)
 
-  pub enter_needs : IsSome (entered_front read.wire_type behind)
+  pub enter_needs : IsSome (entered_front read.kind behind)
   enter_needs = rw the_front refl
 
   pub enter_room : 0 < room
   enter_room = the_opens.some
 
-  module _ (here : Level) (size : ℕ) (rest : List ℕ) (got : entered_front read.wire_type behind ≡ Some (here, size, rest)) where
+  module _ (here : Level) (size : ℕ) (rest : List ℕ) (got : entered_front read.kind behind ≡ Some (here, size, rest)) where
     same_parts : (the_opens.here ≡ here) × (the_opens.size ≡ size) × (the_opens.mid ≡ rest)
     same_parts = found_level the_opens.here here the_opens.size size the_opens.mid rest (sym the_front ∙ got)
 
@@ -177,18 +177,18 @@ around_length outer zero = refl
 around_length outer (suc d) = let e = around_length outer d in omega arith
 
 -- the fields of the cursor after entering, and after leaving
-pub entered_at : (outer : List Level) (depth : ℕ) (kept l here : Level) (left : List Remaining) (rest : List ℕ) → depth < length outer → depth < MOST_DEPTH → kept ≡ less l → Left (MOST_DEPTH - depth - 1) (here ∷ less l ∷ levels_around outer depth) left rest → Left (MOST_DEPTH - (depth + 1)) (here ∷ levels_around (set outer depth kept) (depth + 1)) left rest
+pub entered_at : (outer : List Level) (depth : ℕ) (kept l here : Level) (left : List Remaining) (rest : List ℕ) → depth < length outer → depth < MAX_DEPTH → kept ≡ less l → Left (MAX_DEPTH - depth - 1) (here ∷ less l ∷ levels_around outer depth) left rest → Left (MAX_DEPTH - (depth + 1)) (here ∷ levels_around (set outer depth kept) (depth + 1)) left rest
 entered_at outer depth kept l here left rest lt deep e x =
     let f : levels_around (set outer depth kept) (depth + 1) ≡ less l ∷ levels_around outer depth = around_more outer depth kept lt ∙ ap (λ (k : Level). k ∷ levels_around outer depth) e in
-    let g : MOST_DEPTH - depth - 1 ≡ MOST_DEPTH - (depth + 1) = omega arith in
+    let g : MAX_DEPTH - depth - 1 ≡ MAX_DEPTH - (depth + 1) = omega arith in
     subst (λ (n : ℕ). Left n (here ∷ levels_around (set outer depth kept) (depth + 1)) left rest) g
-    (subst (λ (ls : List Level). Left (MOST_DEPTH - depth - 1) (here ∷ ls) left rest) (sym f) x)
+    (subst (λ (ls : List Level). Left (MAX_DEPTH - depth - 1) (here ∷ ls) left rest) (sym f) x)
 
-pub left_at : (outer : List Level) (depth : ℕ) (left : List Remaining) (rest : List ℕ) → 0 < depth → depth ≤ MOST_DEPTH → Left (MOST_DEPTH - depth + 1) (levels_around outer depth) left rest → Left (MOST_DEPTH - (depth - 1)) (get_or outer (depth - 1) level.Body ∷ levels_around outer (depth - 1)) left rest
+pub left_at : (outer : List Level) (depth : ℕ) (left : List Remaining) (rest : List ℕ) → 0 < depth → depth ≤ MAX_DEPTH → Left (MAX_DEPTH - depth + 1) (levels_around outer depth) left rest → Left (MAX_DEPTH - (depth - 1)) (get_or outer (depth - 1) level.Body ∷ levels_around outer (depth - 1)) left rest
 left_at outer depth left rest some deep x =
-    let g : MOST_DEPTH - depth + 1 ≡ MOST_DEPTH - (depth - 1) = omega arith in
+    let g : MAX_DEPTH - depth + 1 ≡ MAX_DEPTH - (depth - 1) = omega arith in
     subst (λ (n : ℕ). Left n (get_or outer (depth - 1) level.Body ∷ levels_around outer (depth - 1)) left rest) g
-    (subst (λ (ls : List Level). Left (MOST_DEPTH - depth + 1) ls left rest) (around_less outer depth some) x)
+    (subst (λ (ls : List Level). Left (MAX_DEPTH - depth + 1) ls left rest) (around_less outer depth some) x)
 
 pub two_left : (room : ℕ) (levels : List Level) (left other : List Remaining) (w : List ℕ) → Left room levels left w → Left room levels other w → 2 ≤ length left → 2 ≤ length other
 two_left room levels left other w x y two = subst (λ (o : List Remaining). 2 ≤ length o) (left_same room levels left other w x y) two

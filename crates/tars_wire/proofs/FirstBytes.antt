@@ -11,6 +11,7 @@ use Rattle.tars_wire.specs.declared.spot.Spot.TheVariants as spot
 use Rattle.tars_wire.specs.declared.head.FirstByte.{FirstByte}
 use Rattle.tars_wire.specs.declared.head.FirstByte.TheVariants as first
 use Rattle.tars_wire.specs.Heads.{type_of, code_of, is_end, Head, short, long}
+use Rattle.tars_wire.specs.Spelled.{Rules}
 use Rattle.tars_wire.specs.Awaited.{not, wrong_tag, order_fault, takes, tag_fault, is_full, is_deep, unless, sooner, typed_byte, short_fault, long_fault, judged_byte, first_byte}
 use Rattle.tars_wire.proofs.HeadLemmas.{type_of-code_of, code_below, code_of-type_of}
 use Rattle.tars_wire.proofs.Meaning.{Form, Said}
@@ -19,53 +20,54 @@ use Rattle.tars_wire.proofs.Meaning.{Form, Said}
 halves : (byte high low : ℕ) → byte ≡ 16 * high + low → low < 14 → (byte % 16 ≡ low) × (byte / 16 ≡ high)
 halves byte high low e below = (omega arith, omega arith)
 
-pub first_byte_is : (place : Spot) (byte high : ℕ) (type : WireType) → byte ≡ 16 * high + code_of type → first_byte place byte ≡ judged_byte place type high
+pub first_byte_is : (rules : Rules) (place : Spot) (byte high : ℕ) (type : WireType) → byte ≡ 16 * high + code_of type → first_byte rules place byte ≡ judged_byte rules place type high
 unfolding first_byte
-first_byte_is place byte high type e =
+first_byte_is rules place byte high type e =
     let h = halves byte high (code_of type) e (code_below type) in
     rw (h.0, h.1, type_of-code_of type) refl
 
-judged_short : (place : Spot) (type : WireType) (tag : ℕ) → tag < 15 → takes place type ≡ true → tag_fault place type tag ≡ None → is_deep place type ≡ false → judged_byte place type tag ≡ Ok (first.Whole (record { tag = tag; wire_type = type }))
+judged_short : (rules : Rules) (place : Spot) (type : WireType) (tag : ℕ) → tag < 15 → takes place type ≡ true → tag_fault rules place type tag ≡ None → is_deep rules place type ≡ false → judged_byte rules place type tag ≡ Ok (first.Whole (record { tag = tag; kind = type }))
 unfolding judged_byte short_fault
-judged_short place type tag below t f d = rw (t, ne_eqb tag 15 (λ e. omega arith), f, d) refl
+judged_short rules place type tag below t f d = rw (t, ne_eqb tag 15 (λ e. omega arith), f, d) refl
 
-judged_long : (place : Spot) (type : WireType) → takes place type ≡ true → is_full place type ≡ false → is_deep place type ≡ false → judged_byte place type 15 ≡ Ok (first.Long type)
+judged_long : (rules : Rules) (place : Spot) (type : WireType) → takes place type ≡ true → is_full rules place type ≡ false → is_deep rules place type ≡ false → judged_byte rules place type 15 ≡ Ok (first.Long type)
 unfolding judged_byte long_fault
-judged_long place type t f d = rw (t, f, d) refl
+judged_long rules place type t f d = rw (t, f, d) refl
 
-head_said : (place : Spot) (Behind : WireType → ℕ → List ℕ → Type 0) {type : WireType} {tag byte : ℕ} {w rest : List ℕ} → Head tag type (byte ∷ w) rest → takes place type ≡ true → tag_fault place type tag ≡ None → is_full place type ≡ false → is_deep place type ≡ false → Behind type tag rest → Said place Behind (first_byte place byte) w
-head_said place Behind {type} {tag} {byte} {w} (short e below) t f full deep b =
-    let P : Result FirstByte WireWhy → Type 0 = λ r. Said place Behind r w in
-    subst P (sym (first_byte_is place byte tag type e ∙ judged_short place type tag below t f deep)) b
-head_said place Behind {type} {tag} {byte} {w} {rest} (long e below) t f full deep b =
-    let P : Result FirstByte WireWhy → Type 0 = λ r. Said place Behind r (tag ∷ rest) in
+head_said : (rules : Rules) (place : Spot) (Behind : WireType → ℕ → List ℕ → Type 0) {type : WireType} {tag byte : ℕ} {w rest : List ℕ} → Head tag type (byte ∷ w) rest → takes place type ≡ true → tag_fault rules place type tag ≡ None → is_full rules place type ≡ false → is_deep rules place type ≡ false → Behind type tag rest → Said rules place Behind (first_byte rules place byte) w
+head_said rules place Behind {type} {tag} {byte} {w} (short e below) t f full deep b =
+    let P : Result FirstByte WireWhy → Type 0 = λ r. Said rules place Behind r w in
+    subst P (sym (first_byte_is rules place byte tag type e ∙ judged_short rules place type tag below t f deep)) b
+head_said rules place Behind {type} {tag} {byte} {w} {rest} (long e below) t f full deep b =
+    let P : Result FirstByte WireWhy → Type 0 = λ r. Said rules place Behind r (tag ∷ rest) in
     let e' : byte ≡ 16 * 15 + code_of type = omega arith in
-    subst P (sym (first_byte_is place byte 15 type e' ∙ judged_long place type t full deep)) (below, f, b)
+    subst P (sym (first_byte_is rules place byte 15 type e' ∙ judged_long rules place type t full deep)) (below, f, b)
 
-pub said : (place : Spot) (byte : ℕ) (w : List ℕ) (Behind : WireType → ℕ → List ℕ → Type 0) → Form place (byte ∷ w) Behind → Said place Behind (first_byte place byte) w
-said place byte w Behind form = head_said place Behind form.head form.taken form.tag_fits form.not_full form.not_deep form.behind
+pub said : (rules : Rules) (place : Spot) (byte : ℕ) (w : List ℕ) (Behind : WireType → ℕ → List ℕ → Type 0) → Form rules place (byte ∷ w) Behind → Said rules place Behind (first_byte rules place byte) w
+said rules place byte w Behind form = head_said rules place Behind form.head form.taken form.tag_fits form.not_full form.not_deep form.behind
 
 -- what the tests of a short head say
-pub short_fits : (place : Spot) (type : WireType) (tag : ℕ) → short_fault place type tag ≡ None → (tag_fault place type tag ≡ None) × (is_deep place type ≡ false)
+pub short_fits : (rules : Rules) (place : Spot) (type : WireType) (tag : ℕ) → short_fault rules place type tag ≡ None → (tag_fault rules place type tag ≡ None) × (is_deep rules place type ≡ false)
 unfolding short_fault
-short_fits place type tag e = go (tag_fault place type tag) (is_deep place type) e
+short_fits rules place type tag e = go (tag_fault rules place type tag) (is_deep rules place type) e
   where
     go : (f : Option WireWhy) (d : Bool) → sooner f (cond d (Some why.Depth) None) ≡ None → (f ≡ None) × (d ≡ false)
     go None false e = (refl, refl)
     go None true e = cc
     go (Some fault) d e = cc
 
-pub long_fits : (place : Spot) (type : WireType) → long_fault place type ≡ None → (is_full place type ≡ false) × (is_deep place type ≡ false)
+pub long_fits : (rules : Rules) (place : Spot) (type : WireType) → long_fault rules place type ≡ None → (is_full rules place type ≡ false) × (is_deep rules place type ≡ false)
 unfolding long_fault
-long_fits place type e = go (is_full place type) (is_deep place type) e
+long_fits rules place type e = go (is_full rules place type) (is_deep rules place type) e
   where
     go : (f d : Bool) → cond f (Some why.Order) (cond d (Some why.Depth) None) ≡ None → (f ≡ false) × (d ≡ false)
     go false false e = (refl, refl)
     go false true e = cc
     go true d e = cc
 
-order_room : (from tag : ℕ) → tag < 15 → order_fault from tag ≡ None → ltb 255 from ≡ false
-order_room from tag below e = go (ltb 255 from) refl
+order_room : (rising : Bool) (from tag : ℕ) → tag < 15 → order_fault rising from tag ≡ None → (rising && ltb 255 from) ≡ false
+order_room false from tag below e = refl
+order_room true from tag below e = go (ltb 255 from) refl
   where
     none_some : (fault : WireWhy) → Some fault ≡ None → ⊥
     none_some fault e = cc
@@ -77,18 +79,18 @@ order_room from tag below e = go (ltb 255 from) refl
         let below255 : eqb tag 255 ≡ false = ne_eqb tag 255 (λ e. omega arith) in
         absurd (none_some why.Order (rw (above, below255) at e))
 
-struct_room : (ends : Bool) (from tag : ℕ) → tag < 15 → cond ends (wrong_tag 0 tag) (order_fault from tag) ≡ None → (not ends && ltb 255 from) ≡ false
-struct_room true from tag below e = refl
-struct_room false from tag below e = order_room from tag below e
+struct_room : (fixed rising ends : Bool) (from tag : ℕ) → tag < 15 → cond ends (wrong_tag fixed 0 tag) (order_fault rising from tag) ≡ None → (not ends && (rising && ltb 255 from)) ≡ false
+struct_room fixed rising true from tag below e = refl
+struct_room fixed rising false from tag below e = order_room rising from tag below e
 
 -- a tag in the head's first byte leaves a tag
-not_full_below : (place : Spot) (type : WireType) (tag : ℕ) → tag < 15 → tag_fault place type tag ≡ None → is_full place type ≡ false
+not_full_below : (rules : Rules) (place : Spot) (type : WireType) (tag : ℕ) → tag < 15 → tag_fault rules place type tag ≡ None → is_full rules place type ≡ false
 unfolding is_full tag_fault
-not_full_below (spot.Body from) type tag below e = order_room from tag below e
-not_full_below (spot.Struct from room) type tag below e = struct_room (is_end type) from tag below e
-not_full_below (spot.Item wanted room) type tag below e = refl
-not_full_below spot.Size type tag below e = refl
-not_full_below spot.Simple type tag below e = refl
+not_full_below rules (spot.Body from) type tag below e = order_room rules.rising_tags from tag below e
+not_full_below rules (spot.Struct from room) type tag below e = struct_room rules.fixed_tags rules.rising_tags (is_end type) from tag below e
+not_full_below rules (spot.Item wanted room) type tag below e = refl
+not_full_below rules spot.Size type tag below e = refl
+not_full_below rules spot.Simple type tag below e = refl
 
 eqb_fact : (m n : ℕ) → eqb m n ≡ true → m ≡ n
 eqb_fact m n e = grind (arith, nat_tests)
@@ -96,37 +98,37 @@ eqb_fact m n e = grind (arith, nat_tests)
 eqb_not : (m n : ℕ) → eqb m n ≡ false → m ≡ n → ⊥
 eqb_not m n e f = grind (arith, nat_tests)
 
-long_unsaid : (place : Spot) (type : WireType) (byte : ℕ) (w : List ℕ) (Behind : WireType → ℕ → List ℕ → Type 0) (fault : Option WireWhy) → byte ≡ 16 * 15 + code_of type → takes place type ≡ true → long_fault place type ≡ fault → Said place Behind (unless fault (first.Long type)) w → Form place (byte ∷ w) Behind
-long_unsaid place type byte w Behind (Some fault) e t f x = absurd x
-long_unsaid place type byte [] Behind None e t f x = absurd x
-long_unsaid place type byte (tag ∷ w) Behind None e t f x =
-    let fits = long_fits place type f in
+long_unsaid : (rules : Rules) (place : Spot) (type : WireType) (byte : ℕ) (w : List ℕ) (Behind : WireType → ℕ → List ℕ → Type 0) (fault : Option WireWhy) → byte ≡ 16 * 15 + code_of type → takes place type ≡ true → long_fault rules place type ≡ fault → Said rules place Behind (unless fault (first.Long type)) w → Form rules place (byte ∷ w) Behind
+long_unsaid rules place type byte w Behind (Some fault) e t f x = absurd x
+long_unsaid rules place type byte [] Behind None e t f x = absurd x
+long_unsaid rules place type byte (tag ∷ w) Behind None e t f x =
+    let fits = long_fits rules place type f in
     record { type = type; tag = tag; rest = w; head = long (omega arith) x.0; taken = t; tag_fits = x.1; not_full = fits.0; not_deep = fits.1; behind = x.2 }
 
-short_unsaid : (place : Spot) (type : WireType) (byte tag : ℕ) (w : List ℕ) (Behind : WireType → ℕ → List ℕ → Type 0) (fault : Option WireWhy) → byte ≡ 16 * tag + code_of type → tag < 15 → takes place type ≡ true → short_fault place type tag ≡ fault → Said place Behind (unless fault (first.Whole (record { tag = tag; wire_type = type }))) w → Form place (byte ∷ w) Behind
-short_unsaid place type byte tag w Behind (Some fault) e below t f x = absurd x
-short_unsaid place type byte tag w Behind None e below t f x =
-    let fits = short_fits place type tag f in
-    record { type = type; tag = tag; rest = w; head = short e below; taken = t; tag_fits = fits.0; not_full = not_full_below place type tag below fits.0; not_deep = fits.1; behind = x }
+short_unsaid : (rules : Rules) (place : Spot) (type : WireType) (byte tag : ℕ) (w : List ℕ) (Behind : WireType → ℕ → List ℕ → Type 0) (fault : Option WireWhy) → byte ≡ 16 * tag + code_of type → tag < 15 → takes place type ≡ true → short_fault rules place type tag ≡ fault → Said rules place Behind (unless fault (first.Whole (record { tag = tag; kind = type }))) w → Form rules place (byte ∷ w) Behind
+short_unsaid rules place type byte tag w Behind (Some fault) e below t f x = absurd x
+short_unsaid rules place type byte tag w Behind None e below t f x =
+    let fits = short_fits rules place type tag f in
+    record { type = type; tag = tag; rest = w; head = short e below; taken = t; tag_fits = fits.0; not_full = not_full_below rules place type tag below fits.0; not_deep = fits.1; behind = x }
 
-byte_unsaid : (place : Spot) (type : WireType) (byte high : ℕ) (w : List ℕ) (Behind : WireType → ℕ → List ℕ → Type 0) → byte ≡ 16 * high + code_of type → high < 16 → Said place Behind (judged_byte place type high) w → Form place (byte ∷ w) Behind
+byte_unsaid : (rules : Rules) (place : Spot) (type : WireType) (byte high : ℕ) (w : List ℕ) (Behind : WireType → ℕ → List ℕ → Type 0) → byte ≡ 16 * high + code_of type → high < 16 → Said rules place Behind (judged_byte rules place type high) w → Form rules place (byte ∷ w) Behind
 unfolding judged_byte
-byte_unsaid place type byte high w Behind e fits x = by_type (takes place type) refl x
+byte_unsaid rules place type byte high w Behind e fits x = by_type (takes place type) refl x
   where
-    by_form : (b : Bool) → takes place type ≡ true → eqb high 15 ≡ b → Said place Behind (cond b (unless (long_fault place type) (first.Long type)) (unless (short_fault place type high) (first.Whole (record { tag = high; wire_type = type })))) w → Form place (byte ∷ w) Behind
-    by_form true t f x = long_unsaid place type byte w Behind (long_fault place type) (e ∙ ap (λ h. 16 * h + code_of type) (eqb_fact high 15 f)) t refl x
-    by_form false t f x = short_unsaid place type byte high w Behind (short_fault place type high) e (let no15 = eqb_not high 15 f in omega (arith, no15)) t refl x
+    by_form : (b : Bool) → takes place type ≡ true → eqb high 15 ≡ b → Said rules place Behind (cond b (unless (long_fault rules place type) (first.Long type)) (unless (short_fault rules place type high) (first.Whole (record { tag = high; kind = type })))) w → Form rules place (byte ∷ w) Behind
+    by_form true t f x = long_unsaid rules place type byte w Behind (long_fault rules place type) (e ∙ ap (λ h. 16 * h + code_of type) (eqb_fact high 15 f)) t refl x
+    by_form false t f x = short_unsaid rules place type byte high w Behind (short_fault rules place type high) e (let no15 = eqb_not high 15 f in omega (arith, no15)) t refl x
 
-    by_type : (b : Bool) → takes place type ≡ b → Said place Behind (cond b (cond (eqb high 15) (unless (long_fault place type) (first.Long type)) (unless (short_fault place type high) (first.Whole (record { tag = high; wire_type = type })))) (Err why.BadType)) w → Form place (byte ∷ w) Behind
+    by_type : (b : Bool) → takes place type ≡ b → Said rules place Behind (cond b (cond (eqb high 15) (unless (long_fault rules place type) (first.Long type)) (unless (short_fault rules place type high) (first.Whole (record { tag = high; kind = type })))) (Err why.BadType)) w → Form rules place (byte ∷ w) Behind
     by_type true t x = by_form (eqb high 15) t refl x
     by_type false t x = absurd x
 
-pub unsaid : (place : Spot) (byte : ℕ) (w : List ℕ) (Behind : WireType → ℕ → List ℕ → Type 0) → byte < 256 → Said place Behind (first_byte place byte) w → Form place (byte ∷ w) Behind
+pub unsaid : (rules : Rules) (place : Spot) (byte : ℕ) (w : List ℕ) (Behind : WireType → ℕ → List ℕ → Type 0) → byte < 256 → Said rules place Behind (first_byte rules place byte) w → Form rules place (byte ∷ w) Behind
 unfolding first_byte
-unsaid place byte w Behind fits x = go (type_of (byte % 16)) refl x
+unsaid rules place byte w Behind fits x = go (type_of (byte % 16)) refl x
   where
-    go : (o : Option WireType) → type_of (byte % 16) ≡ o → Said place Behind (typed_byte place o (byte / 16)) w → Form place (byte ∷ w) Behind
+    go : (o : Option WireType) → type_of (byte % 16) ≡ o → Said rules place Behind (typed_byte rules place o (byte / 16)) w → Form rules place (byte ∷ w) Behind
     go None e x = absurd x
     go (Some type) e x =
         let low = code_of-type_of (byte % 16) type e in
-        byte_unsaid place type byte (byte / 16) w Behind (omega arith) (omega arith) x
+        byte_unsaid rules place type byte (byte / 16) w Behind (omega arith) (omega arith) x

@@ -8,7 +8,7 @@ use Rattle.tars_wire.specs.declared.wire_type.WireType.{WireType}
 use Rattle.tars_wire.specs.declared.wire_fault.WireWhy.{WireWhy}
 use Rattle.tars_wire.specs.declared.stop.Stop.{Stop}
 use Rattle.tars_wire.specs.Heads.{code_of, Head, short, long}
-use Rattle.tars_wire.specs.Spelled.{Bytes, no_bytes, byte, signed, Number, is_zero_tag, is_int1, is_int2, is_int4, is_int8, IsSize, Size, Contents, is_whole, is_float, is_double, is_string1, is_string4, is_simple_list, is_list, is_map, is_struct}
+use Rattle.tars_wire.specs.Spelled.{Bytes, no_bytes, byte, signed, Number, is_zero_tag, is_int1, is_int2, is_int4, is_int8, IsSize, Size, Contents, is_whole, is_float, is_double, is_string1, is_string4, is_simple_list, is_list, is_map, is_struct, ALL}
 use Rattle.tars_wire.specs.Awaited.{contents, Inside, parts, tag_of, part_step, tag_step, tag_fault, spot_of, after}
 use Rattle.tars_wire.specs.Reading.{stops_at, reading, contents_at}
 use Rattle.tars_wire.specs.Left.{value_of_number, text_in, simple_in}
@@ -30,7 +30,7 @@ front_of b high type rest e =
     let h = halves b high (code_of type) e (code_below type) in
     rw (h.0, h.1, type_of-code_of type) refl
 
-pub head_front_is : {tag : ℕ} {type : WireType} {w rest : List ℕ} → Head tag type w rest → head_front w ≡ Some (record { tag = tag; wire_type = type }, rest)
+pub head_front_is : {tag : ℕ} {type : WireType} {w rest : List ℕ} → Head tag type w rest → head_front w ≡ Some (record { tag = tag; kind = type }, rest)
 head_front_is {tag} {type} {w} {rest} (short {byte = b} e below) = front_of b tag type rest e ∙ rw (lt-ltb tag 15 below) refl
 head_front_is {tag} {type} {w} {rest} (long {byte = b} e below) =
     front_of b 15 type (tag ∷ rest) (let e' : b ≡ 16 * 15 + code_of type = omega arith in e')
@@ -134,23 +134,23 @@ pub record IsRead (inside : Inside) (w : List ℕ) (After : List ℕ → Type 0)
 abbrev ReadsTo : Result (List ℕ) Stop → (List ℕ → Type 0) → Type 0
 ReadsTo r After = (rest : List ℕ) × (r ≡ Ok rest) × After rest
 
-step_read : (b : ℕ) (w : List ℕ) (After : List ℕ → Type 0) (r : Result Inside WireWhy) → Goes (Inner After) r w → ((to : Inside) → Insides to w After → IsRead to w After)
+step_read : (b : ℕ) (w : List ℕ) (After : List ℕ → Type 0) (r : Result Inside WireWhy) → Goes (Inner ALL After) r w → ((to : Inside) → Insides ALL to w After → IsRead to w After)
     → ReadsTo (elim r [ Ok to ↦ reading to w | Err fault ↦ Err (stops_at (b ∷ w) fault) ]) After
 step_read b w After (Ok to) x rec = let t = rec to x in (t.rest, t.is, t.after)
 step_read b w After (Err fault) x rec = absurd x
 
-pub reading_complete : (inside : Inside) (w : List ℕ) (After : List ℕ → Type 0) → Insides inside w After → IsRead inside w After
+pub reading_complete : (inside : Inside) (w : List ℕ) (After : List ℕ → Type 0) → Insides ALL inside w After → IsRead inside w After
 reading_complete (parts []) w After x = record { rest = w; is = refl; after = x }
-reading_complete (parts (part ∷ below)) [] After x = absurd (part_ends part After below x)
+reading_complete (parts (part ∷ below)) [] After x = absurd (part_ends ALL part After below x)
 reading_complete (parts (part ∷ below)) (b ∷ w) After x =
-    let t = step_read b w After (part_step part below b) (part_there part below b w After x) (λ to y. reading_complete to w After y) in
+    let t = step_read b w After (part_step ALL part below b) (part_there ALL part below b w After x) (λ to y. reading_complete to w After y) in
     record { rest = t.0; is = t.1; after = t.2 }
 reading_complete (tag_of place type below) [] After x = absurd x
 reading_complete (tag_of place type below) (tag ∷ w) After x =
-    let t = step_read tag w After (tag_step place type below tag) (unless_there (Inner After) (tag_fault (spot_of place) type tag) (parts (after place tag type below)) w x.1 x.2) (λ to y. reading_complete to w After y) in
+    let t = step_read tag w After (tag_step ALL place type below tag) (unless_there (Inner ALL After) (tag_fault ALL (spot_of place) type tag) (parts (after place tag type below)) w x.1 x.2) (λ to y. reading_complete to w After y) in
     record { rest = t.0; is = t.1; after = t.2 }
 
 pub contents_complete : {room : ℕ} {type : WireType} {v : WireValue} {w rest : List ℕ} → Contents room type v w rest → contents_at room type w ≡ Ok rest
 contents_complete {room} {type} {v} {w} {rest} d =
-    let t = reading_complete (parts (contents room type [])) w (λ u. u ≡ rest) (contents_there d [] (λ u. u ≡ rest) refl) in
+    let t = reading_complete (parts (contents room type [])) w (λ u. u ≡ rest) (contents_there ALL d [] (λ u. u ≡ rest) refl) in
     sym (reading_contents room type [] w ∙ bind_ok (contents_at room type w)) ∙ (t.is ∙ ap (λ u. Ok u) t.after)

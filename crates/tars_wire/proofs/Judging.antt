@@ -1,22 +1,19 @@
 -- What reading a body gives is the verdict on its bytes.
-use Rattle.std.proofs.Common.{◌≡◌, ◌<◌, ◌≤◌, ℕ, suc, ◌+◌, ◌-◌, Bool, true, false, cond, List, [], ◌∷◌, ◌++◌, length, take, get_or, Option, Some, None, Result, Ok, Err, refl, ap, ◌∙◌, subst, arith}
+use Rattle.std.proofs.Common.{◌≡◌, ◌<◌, ◌≤◌, ℕ, suc, ◌+◌, ◌-◌, Bool, true, false, cond, List, [], ◌∷◌, length, get_or, Option, Some, None, Result, Ok, Err, refl, ap, ◌∙◌, subst, arith}
 use Rattle.std.specs.List.{AllByRecursion}
-use Rattle.longest_front.specs.Fronts.{Begins, FaultAt}
 use Rattle.longest_front.specs.Machine.{Course, taken, stopped, one_later, ended, run}
-use Rattle.longest_front.proofs.Verdicts.{Verdict, verdict_of, word_from_taken, fault_from_stopped}
 use Rattle.tars_wire.specs.declared.wire_fault.WireWhy.{WireWhy}
 use Rattle.tars_wire.specs.declared.wire_fault.WireWhy.TheVariants as why
 use Rattle.tars_wire.specs.declared.stop.Stop.{Stop}
 use Rattle.tars_wire.specs.declared.spot.Spot.TheVariants as spot
 use Rattle.tars_wire.specs.declared.head.FirstByte.{FirstByte}
 use Rattle.tars_wire.specs.declared.head.FirstByte.TheVariants as first
-use Rattle.tars_wire.specs.Heads.{MOST_DEPTH}
-use Rattle.tars_wire.specs.Spelled.{IsBody}
+use Rattle.tars_wire.specs.Heads.{MAX_DEPTH}
+use Rattle.tars_wire.specs.Spelled.{IsBody, ALL}
 use Rattle.tars_wire.specs.Awaited.{tag_fault, unless, first_byte, contents, Inside, parts, tag_of, part_step, tag_step, State, within, lift_step, body_step, step, may_end, START}
-use Rattle.tars_wire.specs.Faults.{course_of, IsFault}
 use Rattle.tars_wire.specs.Reading.{◌>>=◌, too_short, stops_at, judged_tag, tag_at, headed, head_at, reading, contents_at, judging, body_at}
-use Rattle.tars_wire.proofs.Meaning.{Language}
-use Rattle.tars_wire.proofs.Steps.{IsByte, reads}
+use Rattle.tars_wire.proofs.Steps.{IsByte}
+use Rattle.tars_wire.proofs.FaultLaws.{OneFault, end_is_body, stop_is_fault}
 use Rattle.tars_wire.proofs.Readings.{bind_ok, bind_same, reading_contents}
 use Rattle.tars_wire.proofs.ReadingLaws.{Facts}
 
@@ -39,7 +36,7 @@ step_facts byte rest (Err fault) rec = omega arith
 
 pub judging_facts : (state : State) (w : List ℕ) → Facts w (judging state w)
 judging_facts state [] = end_facts (may_end state)
-judging_facts state (byte ∷ rest) = step_facts byte rest (step state byte) (λ to. judging_facts to rest)
+judging_facts state (byte ∷ rest) = step_facts byte rest (step ALL state byte) (λ to. judging_facts to rest)
 
 later_course : (w : List ℕ) (r : Result (List ℕ) Stop) → Facts w r → one_later (course (length w) r) ≡ course (suc (length w)) r
 later_course w (Ok v) f = refl
@@ -49,15 +46,15 @@ end_course : (b : Bool) → ended b why.Short ≡ course 0 (cond b (Ok []) (Err 
 end_course true = refl
 end_course false = refl
 
-step_course : (byte : ℕ) (rest : List ℕ) (r : Result State WireWhy) → ((to : State) → run step may_end why.Short to rest ≡ course (length rest) (judging to rest))
-    → elim r [ Ok to ↦ one_later (run step may_end why.Short to rest) | Err fault ↦ stopped 0 fault ]
+step_course : (byte : ℕ) (rest : List ℕ) (r : Result State WireWhy) → ((to : State) → run (step ALL) may_end why.Short to rest ≡ course (length rest) (judging to rest))
+    → elim r [ Ok to ↦ one_later (run (step ALL) may_end why.Short to rest) | Err fault ↦ stopped 0 fault ]
     ≡ course (suc (length rest)) (elim r [ Ok to ↦ judging to rest | Err fault ↦ Err (stops_at (byte ∷ rest) fault) ])
 step_course byte rest (Ok to) rec = ap one_later (rec to) ∙ later_course rest (judging to rest) (judging_facts to rest)
 step_course byte rest (Err fault) rec = ap (λ k. stopped k fault) (let e : 0 ≡ suc (length rest) - suc (length rest) = omega arith in e)
 
-pub run_is : (state : State) (w : List ℕ) → run step may_end why.Short state w ≡ course (length w) (judging state w)
+pub run_is : (state : State) (w : List ℕ) → run (step ALL) may_end why.Short state w ≡ course (length w) (judging state w)
 run_is state [] = end_course (may_end state)
-run_is state (byte ∷ rest) = step_course byte rest (step state byte) (λ to. run_is to rest)
+run_is state (byte ∷ rest) = step_course byte rest (step ALL state byte) (λ to. run_is to rest)
 
 -- inside a field, and then behind it
 lifted : (from byte : ℕ) (rest : List ℕ) (r : Result Inside WireWhy) → ((to : Inside) → judging (within to from) rest ≡ reading to rest >>= (λ v. judging (within (parts []) from) v))
@@ -69,21 +66,21 @@ lifted from byte rest (Err fault) rec = refl
 judging_inside : (inside : Inside) (from : ℕ) (w : List ℕ) → judging (within inside from) w ≡ reading inside w >>= (λ v. judging (within (parts []) from) v)
 judging_inside (parts []) from w = refl
 judging_inside (parts (part ∷ below)) from [] = refl
-judging_inside (parts (part ∷ below)) from (byte ∷ rest) = lifted from byte rest (part_step part below byte) (λ to. judging_inside to from rest)
+judging_inside (parts (part ∷ below)) from (byte ∷ rest) = lifted from byte rest (part_step ALL part below byte) (λ to. judging_inside to from rest)
 judging_inside (tag_of place type below) from [] = refl
-judging_inside (tag_of place type below) from (tag ∷ rest) = lifted from tag rest (tag_step place type below tag) (λ to. judging_inside to from rest)
+judging_inside (tag_of place type below) from (tag ∷ rest) = lifted from tag rest (tag_step ALL place type below tag) (λ to. judging_inside to from rest)
 
 -- the head of a field of the body
 body_goes : (from byte : ℕ) (rest : List ℕ) (r : Result FirstByte WireWhy)
     → elim (body_step from r) [ Ok to ↦ judging to rest | Err fault ↦ Err (stops_at (byte ∷ rest) fault) ]
-    ≡ headed (spot.Body from) r byte rest >>= (λ h. judging (within (parts (contents MOST_DEPTH h.0.wire_type [])) (h.0.tag + 1)) h.1)
+    ≡ headed (spot.Body from) r byte rest >>= (λ h. judging (within (parts (contents MAX_DEPTH h.0.kind [])) (h.0.tag + 1)) h.1)
 unfolding tag_at
 body_goes from byte rest (Ok (first.Whole head)) = refl
 body_goes from byte [] (Ok (first.Long type)) = refl
-body_goes from byte (tag ∷ rest) (Ok (first.Long type)) = go (tag_fault (spot.Body from) type tag)
+body_goes from byte (tag ∷ rest) (Ok (first.Long type)) = go (tag_fault ALL (spot.Body from) type tag)
   where
-    go : (f : Option WireWhy) → elim (unless f (within (parts (contents MOST_DEPTH type [])) (tag + 1))) [ Ok to ↦ judging to rest | Err fault ↦ Err (stops_at (tag ∷ rest) fault) ]
-        ≡ judged_tag f type tag rest >>= (λ h. judging (within (parts (contents MOST_DEPTH h.0.wire_type [])) (h.0.tag + 1)) h.1)
+    go : (f : Option WireWhy) → elim (unless f (within (parts (contents MAX_DEPTH type [])) (tag + 1))) [ Ok to ↦ judging to rest | Err fault ↦ Err (stops_at (tag ∷ rest) fault) ]
+        ≡ judged_tag f type tag rest >>= (λ h. judging (within (parts (contents MAX_DEPTH h.0.kind [])) (h.0.tag + 1)) h.1)
     go None = refl
     go (Some fault) = refl
 body_goes from byte rest (Err fault) = refl
@@ -92,54 +89,29 @@ pub body_ends : (from : ℕ) → body_at from [] ≡ Ok []
 unfolding body_at
 body_ends from = refl
 
-pub one_body_field : (from byte : ℕ) (rest : List ℕ) → body_at from (byte ∷ rest) ≡ head_at (spot.Body from) (byte ∷ rest) >>= (λ h. contents_at MOST_DEPTH h.0.wire_type h.1 >>= body_at (h.0.tag + 1))
+pub one_body_field : (from byte : ℕ) (rest : List ℕ) → body_at from (byte ∷ rest) ≡ head_at (spot.Body from) (byte ∷ rest) >>= (λ h. contents_at MAX_DEPTH h.0.kind h.1 >>= body_at (h.0.tag + 1))
 unfolding body_at head_at
 one_body_field from byte rest =
-    body_goes from byte rest (first_byte (spot.Body from) byte)
-    ∙ bind_same (headed (spot.Body from) (first_byte (spot.Body from) byte) byte rest) (λ h. judging (within (parts (contents MOST_DEPTH h.0.wire_type [])) (h.0.tag + 1)) h.1) (λ h. contents_at MOST_DEPTH h.0.wire_type h.1 >>= body_at (h.0.tag + 1))
-    (λ h. judging_inside (parts (contents MOST_DEPTH h.0.wire_type [])) (h.0.tag + 1) h.1
-    ∙ ap (λ r. r >>= (λ v. judging (within (parts []) (h.0.tag + 1)) v)) (reading_contents MOST_DEPTH h.0.wire_type [] h.1 ∙ bind_ok (contents_at MOST_DEPTH h.0.wire_type h.1)))
+    body_goes from byte rest (first_byte ALL (spot.Body from) byte)
+    ∙ bind_same (headed (spot.Body from) (first_byte ALL (spot.Body from) byte) byte rest) (λ h. judging (within (parts (contents MAX_DEPTH h.0.kind [])) (h.0.tag + 1)) h.1) (λ h. contents_at MAX_DEPTH h.0.kind h.1 >>= body_at (h.0.tag + 1))
+    (λ h. judging_inside (parts (contents MAX_DEPTH h.0.kind [])) (h.0.tag + 1) h.1
+    ∙ ap (λ r. r >>= (λ v. judging (within (parts []) (h.0.tag + 1)) v)) (reading_contents MAX_DEPTH h.0.kind [] h.1 ∙ bind_ok (contents_at MAX_DEPTH h.0.kind h.1)))
 
 -- bytes are below 256
 pub all_bytes : (w : List ℕ) → ((i : ℕ) → get_or w i 0 < 256) → AllByRecursion IsByte w
 all_bytes [] h = tt
 all_bytes (b ∷ w) h = (h 0, all_bytes w (λ i. h (suc i)))
 
--- a body, said in two ways
-body_is : (w : List ℕ) → Language START w → IsBody w
-body_is w x = record { fields = x.0; spelled = x.1 }
-
-is_body : (w : List ℕ) → IsBody w → Language START w
-is_body w b = (b.fields, b.spelled)
-
-begins_too : (w : List ℕ) → Begins (Language START) w → Begins IsBody w
-begins_too w b = record { more = b.more; word = body_is (w ++ b.more) b.word }
-
-begins_back : (w : List ℕ) → Begins IsBody w → Begins (Language START) w
-begins_back w b = record { more = b.more; word = is_body (w ++ b.more) b.word }
-
-same_fault : (w : List ℕ) (place : ℕ) → FaultAt (Language START) w place → FaultAt IsBody w place
-same_fault w place f = record { within = f.within; front = begins_too (take place w) f.front; longest = λ longer lt le b. f.longest longer lt le (begins_back (take longer w) b) }
-
 module _ (w : List ℕ) (fits : (i : ℕ) → get_or w i 0 < 256) where
-  the_verdict : Verdict (Language START) w (course_of w)
-  the_verdict = verdict_of step may_end why.Short IsByte Language reads START w (all_bytes w fits)
-
-  the_course : (r : Result (List ℕ) Stop) → body_at 0 w ≡ r → course_of w ≡ course (length w) r
+  the_course : (r : Result (List ℕ) Stop) → body_at 0 w ≡ r → run (step ALL) may_end why.Short START w ≡ course (length w) r
   unfolding body_at
   the_course r e = run_is START w ∙ ap (course (length w)) e
 
   pub taken_is_body : (rest : List ℕ) → body_at 0 w ≡ Ok rest → IsBody w
-  taken_is_body rest e = body_is w (word_from_taken (Language START) w (course_of w) the_verdict (the_course (Ok rest) e))
+  taken_is_body rest e = end_is_body w (all_bytes w fits) (the_course (Ok rest) e)
 
-  pub body_is_taken : (stop : Stop) → body_at 0 w ≡ Err stop → IsBody w → ⊥
-  body_is_taken stop e b =
-      (fault_from_stopped (Language START) w (course_of w) (length w - stop.left) stop.why the_verdict (the_course (Err stop) e)).1 (is_body w b)
-
-  pub stop_is_fault : (stop : Stop) → body_at 0 w ≡ Err stop → IsFault w (record { at = length w - stop.left; why = stop.why })
-  stop_is_fault stop e =
-      let v = fault_from_stopped (Language START) w (course_of w) (length w - stop.left) stop.why the_verdict (the_course (Err stop) e) in
-      record { place = same_fault w (length w - stop.left) v.0; reason = the_course (Err stop) e }
+  pub stop_is_one : (stop : Stop) → body_at 0 w ≡ Err stop → OneFault w (length w - stop.left) stop.why
+  stop_is_one stop e = stop_is_fault w (all_bytes w fits) (length w - stop.left) stop.why (the_course (Err stop) e)
 
 -- what is left where it stopped is no more than all
 pub left_within : (w : List ℕ) (stop : Stop) → body_at 0 w ≡ Err stop → stop.left ≤ length w

@@ -13,6 +13,7 @@ use Rattle.tars_wire.specs.Heads.{opens, Head, short, long}
 use Rattle.tars_wire.specs.Reading.{contents_at}
 use Rattle.tars_wire.specs.Left.{Remaining, fields_left, values_left, pairs_left, value_left, next_field, behind_next, type_of_value, head_in, LevelLeft}
 use Rattle.tars_wire.specs.Pieces.{head_front, less, HasMore}
+use Rattle.tars_wire.specs.Spelled.{ALL}
 use Rattle.tars_wire.proofs.Forms.{room_left}
 use Rattle.tars_wire.proofs.Fronts.{head_front_is, contents_complete}
 use Rattle.tars_wire.proofs.ReadingLaws.{contents_not_longer}
@@ -42,26 +43,26 @@ module _ (room : ℕ) (l : Level) (inner : Remaining) (w after : List ℕ) (x : 
   next_more = the_next.1.more
 
   module _ (read : ReadHead) (behind : List ℕ) (is_read : head_front w ≡ Some (read, behind)) where
-    the_type : read.wire_type ≡ type_of_value the_next.0.1
-    the_type = ap (λ (k : ReadHead). k.wire_type) (found_first read (record { tag = the_next.0.0; wire_type = type_of_value the_next.0.1 }) behind the_next.1.behind (sym is_read ∙ head_front_is the_next.1.head))
+    the_type : read.kind ≡ type_of_value the_next.0.1
+    the_type = ap (λ (k : ReadHead). k.kind) (found_first read (record { tag = the_next.0.0; kind = type_of_value the_next.0.1 }) behind the_next.1.behind (sym is_read ∙ head_front_is the_next.1.head))
 
     the_rest : behind ≡ the_next.1.behind
-    the_rest = found_second read (record { tag = the_next.0.0; wire_type = type_of_value the_next.0.1 }) behind the_next.1.behind (sym is_read ∙ head_front_is the_next.1.head)
+    the_rest = found_second read (record { tag = the_next.0.0; kind = type_of_value the_next.0.1 }) behind the_next.1.behind (sym is_read ∙ head_front_is the_next.1.head)
 
-    passes : contents_at room read.wire_type behind ≡ Ok the_next.1.mid
+    passes : contents_at room read.kind behind ≡ Ok the_next.1.mid
     passes = ap (λ t. contents_at room t behind) the_type ∙ (ap (contents_at room (type_of_value the_next.0.1)) the_rest ∙ contents_complete the_next.1.contents)
 
-    pub next_passes : IsOk (contents_at room read.wire_type behind)
+    pub next_passes : IsOk (contents_at room read.kind behind)
     next_passes = rw passes refl
 
-    pub next_room : IsTrue (opens read.wire_type) → 0 < room
-    next_room t = go (opens (type_of_value the_next.0.1)) (room_left the_next.1.contents) (sym (ap opens the_type) ∙ t)
+    pub next_room : IsTrue (opens read.kind) → 0 < room
+    next_room t = go (opens (type_of_value the_next.0.1)) (room_left ALL the_next.1.contents) (sym (ap opens the_type) ∙ t)
       where
         go : (b : Bool) → (b && eqb room 0) ≡ false → b ≡ true → 0 < room
         go true e f = grind (arith, nat_tests)
         go false e f = absurd (false_true f)
 
-    module _ (rest : List ℕ) (got : contents_at room read.wire_type behind ≡ Ok rest) where
+    module _ (rest : List ℕ) (got : contents_at room read.kind behind ≡ Ok rest) where
       mid_is : the_next.1.mid ≡ rest
       mid_is = ok_same the_next.1.mid rest (sym passes ∙ got)
         where
@@ -74,7 +75,7 @@ module _ (room : ℕ) (l : Level) (inner : Remaining) (w after : List ℕ) (x : 
       pub next_shorter : length rest < length w
       next_shorter =
           let a = shorter the_next.1.head in
-          let b = contents_not_longer room read.wire_type behind rest got in
+          let b = contents_not_longer room read.kind behind rest got in
           let c : length behind ≡ length the_next.1.behind = ap length the_rest in
           omega arith
 
@@ -94,7 +95,7 @@ end_front room l inner w after x e f =
 pub end_struct : (room : ℕ) (l : Level) (inner : Remaining) (w after : List ℕ) (read : ReadHead) (behind : List ℕ) → LevelLeft room l inner w after → is_some (head_in (next_field inner)) ≡ false → l ≡ level.Struct → head_front w ≡ Some (read, behind) → behind ≡ after
 end_struct room l inner w after read behind x e f is_read =
     let close : Head 0 wire.StructEnd w after = subst (λ (k : Level). AtEnd k w after) f (at_end room l inner w after x e) in
-    found_second read (record { tag = 0; wire_type = wire.StructEnd }) behind after (sym is_read ∙ head_front_is close)
+    found_second read (record { tag = 0; kind = wire.StructEnd }) behind after (sym is_read ∙ head_front_is close)
 
 body_after : (room : ℕ) (inner : Remaining) (w after : List ℕ) → LevelLeft room level.Body inner w after → after ≡ []
 body_after room (fields_left fs) w after x = x.2

@@ -10,7 +10,6 @@ pub mod Steps
 pub mod Readings
 pub mod ReadingLaws
 pub mod ScanLoops
-pub mod Judging
 pub mod Fronts
 pub mod Walks
 pub mod OneField
@@ -19,3 +18,5 @@ pub mod Entering
 pub mod Leaving
 pub mod CallerLemmas
 pub mod Reasons
+pub mod FaultLaws
+pub mod Judging

@@ -1,6 +1,6 @@
--- What the awaited parts mean: some bytes that the grammar spells, and then what follows. `After` is what may
--- follow.
-use Rattle.std.proofs.Common.{◌≡◌, ◌<◌, ℕ, zero, suc, ◌+◌, ◌*◌, true, false, List, [], ◌∷◌, None, Result, Ok, Err}
+-- What the awaited parts mean, by any rules: some bytes that the grammar spells, and then what follows.
+-- `After` is what may follow.
+use Rattle.std.proofs.Common.{◌⊎◌, ◌≡◌, ◌<◌, ◌≤◌, ℕ, zero, suc, ◌+◌, ◌*◌, true, false, List, [], ◌∷◌, None, Result, Ok, Err}
 use Rattle.wire_words.specs.Tree.{WireValue, WireValues, WirePairs, WireFields}
 use Rattle.tars_wire.specs.declared.wire_type.WireType.{WireType}
 use Rattle.tars_wire.specs.declared.wire_type.WireType.TheVariants as wire
@@ -9,8 +9,8 @@ use Rattle.tars_wire.specs.declared.spot.Spot.{Spot}
 use Rattle.tars_wire.specs.declared.spot.Spot.TheVariants as spot
 use Rattle.tars_wire.specs.declared.head.FirstByte.{FirstByte}
 use Rattle.tars_wire.specs.declared.head.FirstByte.TheVariants as first
-use Rattle.tars_wire.specs.Heads.{MOST_DEPTH, Head}
-use Rattle.tars_wire.specs.Spelled.{Size, Contents, Values, Pairs, Fields}
+use Rattle.tars_wire.specs.Heads.{MAX_DEPTH, Head}
+use Rattle.tars_wire.specs.Spelled.{Rules, FixedHead, SizeBy, ContentsBy, ValuesBy, PairsBy, FieldsBy}
 use Rattle.tars_wire.specs.Awaited.{takes, tag_fault, is_full, is_deep, Kind, of_bytes, of_values, of_pairs, Place, in_struct, an_element, a_key, its_value, a_size, simple_head, spot_of, Part, raw, size_first, size_later, head_of, contents, after, Inside, parts, tag_of, State, within, body_tag}
 
 -- so many bytes
@@ -20,76 +20,77 @@ Run (suc n) [] After = ⊥
 Run (suc n) (b ∷ w) After = (b < 256) × Run n w After
 
 -- as much as a size of n counts
-abbrev pub Counted : Kind → ℕ → List ℕ → (List ℕ → Type 0) → Type 0
-Counted of_bytes n w After = Run n w After
-Counted (of_values room) n w After = (vs : WireValues) × (rest : List ℕ) × Values room n vs w rest × After rest
-Counted (of_pairs room) n w After = (ps : WirePairs) × (rest : List ℕ) × Pairs room n ps w rest × After rest
+abbrev pub Counted : Rules → Kind → ℕ → List ℕ → (List ℕ → Type 0) → Type 0
+Counted rules of_bytes n w After = Run n w After
+Counted rules (of_values room) n w After = (vs : WireValues) × (rest : List ℕ) × ValuesBy rules room n vs w rest × After rest
+Counted rules (of_pairs room) n w After = (ps : WirePairs) × (rest : List ℕ) × PairsBy rules room n ps w rest × After rest
 
 -- so many more bytes of a number, and as much as it counts
-abbrev pub Later : Kind → ℕ → ℕ → List ℕ → (List ℕ → Type 0) → Type 0
-Later kind zero so_far w After = Counted kind so_far w After
-Later kind (suc more) so_far [] After = ⊥
-Later kind (suc more) so_far (b ∷ w) After = (b < 256) × Later kind more (so_far * 256 + b) w After
+abbrev pub Later : Rules → Kind → ℕ → ℕ → List ℕ → (List ℕ → Type 0) → Type 0
+Later rules kind zero so_far w After = Counted rules kind so_far w After
+Later rules kind (suc more) so_far [] After = ⊥
+Later rules kind (suc more) so_far (b ∷ w) After = (b < 256) × Later rules kind more (so_far * 256 + b) w After
 
-abbrev pub First : Kind → ℕ → List ℕ → (List ℕ → Type 0) → Type 0
-First kind more [] After = ⊥
-First kind more (b ∷ w) After = (b < 128) × Later kind more b w After
+-- the first of so many more bytes of a size, which is not negative, or a negative one that counts nothing
+abbrev pub First : Rules → Kind → ℕ → List ℕ → (List ℕ → Type 0) → Type 0
+First rules kind more [] After = ⊥
+First rules kind more (b ∷ w) After = ((b < 128) × Later rules kind more b w After) ⊎ ((rules.sizes ≡ false) × (128 ≤ b) × (b < 256) × Run more w After)
 
-abbrev pub Sized : Kind → List ℕ → (List ℕ → Type 0) → Type 0
-Sized kind w After = (n : ℕ) × (mid : List ℕ) × Size n w mid × Counted kind n mid After
+abbrev pub Sized : Rules → Kind → List ℕ → (List ℕ → Type 0) → Type 0
+Sized rules kind w After = (n : ℕ) × (mid : List ℕ) × SizeBy rules n w mid × Counted rules kind n mid After
 
-abbrev pub Placed : Place → List ℕ → (List ℕ → Type 0) → Type 0
-Placed (in_struct from room) w After = (fs : WireFields) × (mid : List ℕ) × (rest : List ℕ) × Fields room from fs w mid × Head 0 wire.StructEnd mid rest × After rest
-Placed (an_element more room) w After = Counted (of_values room) (suc more) w After
-Placed (a_key more room) w After = Counted (of_pairs room) (suc more) w After
-Placed (its_value more room) w After = (type : WireType) × (v : WireValue) × (behind : List ℕ) × (next : List ℕ) × Head 1 type w behind × Contents room type v behind next × Counted (of_pairs room) more next After
-Placed (a_size kind) w After = Sized kind w After
-Placed simple_head w After = (behind : List ℕ) × Head 0 wire.Int1 w behind × Sized of_bytes behind After
+abbrev pub Placed : Rules → Place → List ℕ → (List ℕ → Type 0) → Type 0
+Placed rules (in_struct from room) w After = (fs : WireFields) × (mid : List ℕ) × (rest : List ℕ) × FieldsBy rules room from fs w mid × FixedHead rules.fixed_tags 0 wire.StructEnd mid rest × After rest
+Placed rules (an_element more room) w After = Counted rules (of_values room) (suc more) w After
+Placed rules (a_key more room) w After = Counted rules (of_pairs room) (suc more) w After
+Placed rules (its_value more room) w After = (type : WireType) × (v : WireValue) × (behind : List ℕ) × (next : List ℕ) × FixedHead rules.fixed_tags 1 type w behind × ContentsBy rules room type v behind next × Counted rules (of_pairs room) more next After
+Placed rules (a_size kind) w After = Sized rules kind w After
+Placed rules simple_head w After = (behind : List ℕ) × FixedHead rules.fixed_tags 0 wire.Int1 w behind × Sized rules of_bytes behind After
 
-abbrev pub Awaits : Part → List ℕ → (List ℕ → Type 0) → Type 0
-Awaits (raw more) w After = Run (suc more) w After
-Awaits (size_first kind more) w After = First kind more w After
-Awaits (size_later kind more so_far) w After = Later kind (suc more) so_far w After
-Awaits (head_of place) w After = Placed place w After
+abbrev pub Awaits : Rules → Part → List ℕ → (List ℕ → Type 0) → Type 0
+Awaits rules (raw more) w After = Run (suc more) w After
+Awaits rules (size_first kind more) w After = First rules kind more w After
+Awaits rules (size_later kind more so_far) w After = Later rules kind (suc more) so_far w After
+Awaits rules (head_of place) w After = Placed rules place w After
 
-abbrev pub Parts : List Part → List ℕ → (List ℕ → Type 0) → Type 0
-Parts [] w After = After w
-Parts (part ∷ below) w After = Awaits part w (λ v. Parts below v After)
+abbrev pub Parts : Rules → List Part → List ℕ → (List ℕ → Type 0) → Type 0
+Parts rules [] w After = After w
+Parts rules (part ∷ below) w After = Awaits rules part w (λ v. Parts rules below v After)
 
 -- what is behind a long head's first byte
-abbrev pub Tagged : Spot → WireType → (WireType → ℕ → List ℕ → Type 0) → List ℕ → Type 0
-Tagged place type Behind [] = ⊥
-Tagged place type Behind (tag ∷ w) = (tag < 256) × (tag_fault place type tag ≡ None) × Behind type tag w
+abbrev pub Tagged : Rules → Spot → WireType → (WireType → ℕ → List ℕ → Type 0) → List ℕ → Type 0
+Tagged rules place type Behind [] = ⊥
+Tagged rules place type Behind (tag ∷ w) = (tag < 256) × (tag_fault rules place type tag ≡ None) × Behind type tag w
 
-abbrev pub Insides : Inside → List ℕ → (List ℕ → Type 0) → Type 0
-Insides (parts ps) w After = Parts ps w After
-Insides (tag_of place type below) w After = Tagged (spot_of place) type (λ ty tag v. Parts (after place tag ty below) v After) w
+abbrev pub Insides : Rules → Inside → List ℕ → (List ℕ → Type 0) → Type 0
+Insides rules (parts ps) w After = Parts rules ps w After
+Insides rules (tag_of place type below) w After = Tagged rules (spot_of place) type (λ ty tag v. Parts rules (after place tag ty below) v After) w
 
 -- fields to the end
-abbrev pub Body : ℕ → List ℕ → Type 0
-Body from w = (fs : WireFields) × Fields MOST_DEPTH from fs w []
+abbrev pub Body : Rules → ℕ → List ℕ → Type 0
+Body rules from w = (fs : WireFields) × FieldsBy rules MAX_DEPTH from fs w []
 
-abbrev pub body_behind : WireType → ℕ → List ℕ → Type 0
-body_behind type tag w = Parts (contents MOST_DEPTH type []) w (Body (tag + 1))
+abbrev pub body_behind : Rules → WireType → ℕ → List ℕ → Type 0
+body_behind rules type tag w = Parts rules (contents MAX_DEPTH type []) w (Body rules (tag + 1))
 
-abbrev pub Language : State → List ℕ → Type 0
-Language (within inside from) w = Insides inside w (Body from)
-Language (body_tag from type) w = Tagged (spot.Body from) type body_behind w
+abbrev pub Language : Rules → State → List ℕ → Type 0
+Language rules (within inside from) w = Insides rules inside w (Body rules from)
+Language rules (body_tag from type) w = Tagged rules (spot.Body from) type (body_behind rules) w
 
 -- a head that may stand at a place, and what is behind it
-pub record Form (place : Spot) (w : List ℕ) (Behind : WireType → ℕ → List ℕ → Type 0) : Type 0 where
+pub record Form (rules : Rules) (place : Spot) (w : List ℕ) (Behind : WireType → ℕ → List ℕ → Type 0) : Type 0 where
   pub type : WireType
   pub tag : ℕ
   pub rest : List ℕ
   pub head : Head tag type w rest
   pub taken : takes place type ≡ true
-  pub tag_fits : tag_fault place type tag ≡ None
-  pub not_full : is_full place type ≡ false
-  pub not_deep : is_deep place type ≡ false
+  pub tag_fits : tag_fault rules place type tag ≡ None
+  pub not_full : is_full rules place type ≡ false
+  pub not_deep : is_deep rules place type ≡ false
   pub behind : Behind type tag rest
 
 -- the same, by what the first byte says
-abbrev pub Said : Spot → (WireType → ℕ → List ℕ → Type 0) → Result FirstByte WireWhy → List ℕ → Type 0
-Said place Behind (Ok (first.Whole head)) w = Behind head.wire_type head.tag w
-Said place Behind (Ok (first.Long type)) w = Tagged place type Behind w
-Said place Behind (Err fault) w = ⊥
+abbrev pub Said : Rules → Spot → (WireType → ℕ → List ℕ → Type 0) → Result FirstByte WireWhy → List ℕ → Type 0
+Said rules place Behind (Ok (first.Whole head)) w = Behind head.kind head.tag w
+Said rules place Behind (Ok (first.Long type)) w = Tagged rules place type Behind w
+Said rules place Behind (Err fault) w = ⊥

@@ -120,8 +120,8 @@ one_of room l inner w rest x = absurd x
 -- ---- whether a field is next
 
 abbrev HeadCase : List ℕ → Option (ℕ × WireValue) → Type 0
-HeadCase w None = (behind : List ℕ) × (head_front w ≡ Some (record { tag = 0; wire_type = wire.StructEnd }, behind))
-HeadCase w (Some next) = (behind : List ℕ) × (head_front w ≡ Some (record { tag = next.0; wire_type = type_of_value next.1 }, behind))
+HeadCase w None = (behind : List ℕ) × (head_front w ≡ Some (record { tag = 0; kind = wire.StructEnd }, behind))
+HeadCase w (Some next) = (behind : List ℕ) × (head_front w ≡ Some (record { tag = next.0; kind = type_of_value next.1 }, behind))
 
 over_false : (n : ℕ) → n ≡ 0 → eqb n 0 ≡ false → ⊥
 over_false n e f = grind (arith, nat_tests)
@@ -172,22 +172,22 @@ heads_same a b x y e = ap first_head e
     first_head None = a
     first_head (Some h) = h.0
 
-case_head : (w : List ℕ) (h : ReadHead) (behind : List ℕ) (o : Option (ℕ × WireValue)) → HeadCase w o → head_front w ≡ Some (h, behind) → is_end h.wire_type ≡ false → Some h ≡ head_in o
+case_head : (w : List ℕ) (h : ReadHead) (behind : List ℕ) (o : Option (ℕ × WireValue)) → HeadCase w o → head_front w ≡ Some (h, behind) → is_end h.kind ≡ false → Some h ≡ head_in o
 case_head w h behind None c e f =
-    let s = heads_same h (record { tag = 0; wire_type = wire.StructEnd }) behind c.0 (sym e ∙ c.1) in
-    absurd (false_true (sym f ∙ ap (λ (x : ReadHead). is_end x.wire_type) s))
-case_head w h behind (Some next) c e f = ap (λ (x : ReadHead). Some x) (heads_same h (record { tag = next.0; wire_type = type_of_value next.1 }) behind c.0 (sym e ∙ c.1))
+    let s = heads_same h (record { tag = 0; kind = wire.StructEnd }) behind c.0 (sym e ∙ c.1) in
+    absurd (false_true (sym f ∙ ap (λ (x : ReadHead). is_end x.kind) s))
+case_head w h behind (Some next) c e f = ap (λ (x : ReadHead). Some x) (heads_same h (record { tag = next.0; kind = type_of_value next.1 }) behind c.0 (sym e ∙ c.1))
 
-case_none : (w : List ℕ) (h : ReadHead) (behind : List ℕ) (o : Option (ℕ × WireValue)) → HeadCase w o → head_front w ≡ Some (h, behind) → is_end h.wire_type ≡ true → None ≡ head_in o
+case_none : (w : List ℕ) (h : ReadHead) (behind : List ℕ) (o : Option (ℕ × WireValue)) → HeadCase w o → head_front w ≡ Some (h, behind) → is_end h.kind ≡ true → None ≡ head_in o
 case_none w h behind None c e f = refl
 case_none w h behind (Some next) c e f =
-    let s = heads_same h (record { tag = next.0; wire_type = type_of_value next.1 }) behind c.0 (sym e ∙ c.1) in
-    absurd (false_true (sym (no_end next.1) ∙ (sym (ap (λ (x : ReadHead). is_end x.wire_type) s) ∙ f)))
+    let s = heads_same h (record { tag = next.0; kind = type_of_value next.1 }) behind c.0 (sym e ∙ c.1) in
+    absurd (false_true (sym (no_end next.1) ∙ (sym (ap (λ (x : ReadHead). is_end x.kind) s) ∙ f)))
 
-pub head_is_next : (room : ℕ) (l : Level) (inner : Remaining) (w rest : List ℕ) (h : ReadHead) (behind : List ℕ) → is_over l w ≡ false → head_front w ≡ Some (h, behind) → is_end h.wire_type ≡ false → LevelLeft room l inner w rest → Some h ≡ head_in (next_field inner)
+pub head_is_next : (room : ℕ) (l : Level) (inner : Remaining) (w rest : List ℕ) (h : ReadHead) (behind : List ℕ) → is_over l w ≡ false → head_front w ≡ Some (h, behind) → is_end h.kind ≡ false → LevelLeft room l inner w rest → Some h ≡ head_in (next_field inner)
 head_is_next room l inner w rest h behind o e f x = case_head w h behind (next_field inner) (head_case room l inner w rest (next_field inner) (one_of room l inner w rest x) o) e f
 
-pub end_is_next : (room : ℕ) (l : Level) (inner : Remaining) (w rest : List ℕ) (h : ReadHead) (behind : List ℕ) → is_over l w ≡ false → head_front w ≡ Some (h, behind) → is_end h.wire_type ≡ true → LevelLeft room l inner w rest → None ≡ head_in (next_field inner)
+pub end_is_next : (room : ℕ) (l : Level) (inner : Remaining) (w rest : List ℕ) (h : ReadHead) (behind : List ℕ) → is_over l w ≡ false → head_front w ≡ Some (h, behind) → is_end h.kind ≡ true → LevelLeft room l inner w rest → None ≡ head_in (next_field inner)
 end_is_next room l inner w rest h behind o e f x = case_none w h behind (next_field inner) (head_case room l inner w rest (next_field inner) (one_of room l inner w rest x) o) e f
 
 -- ---- one turn: the next field of the innermost level
@@ -195,11 +195,11 @@ end_is_next room l inner w rest h behind o e f x = case_none w h behind (next_fi
 pub record Turn (room : ℕ) (l : Level) (levels : List Level) (left : List Remaining) (w : List ℕ) (h : ReadHead) : Type 0 where
   pub v : WireValue
   pub next : next_of left ≡ Some (h.tag, v)
-  pub type : h.wire_type ≡ type_of_value v
+  pub type : h.kind ≡ type_of_value v
   pub behind : List ℕ
   pub mid : List ℕ
   pub front : head_front w ≡ Some (h, behind)
-  pub contents : Contents room h.wire_type v behind mid
+  pub contents : Contents room h.kind v behind mid
   pub after : Left room (less l ∷ levels) (skipped left) mid
   pub more : HasMore l
 
@@ -210,11 +210,11 @@ turn_of room l levels inner outer w rest None h n x y e = absurd (none_some e)
     none_some e = cc
 turn_of room l levels inner outer w rest (Some next) h n x y e =
     let s = same e in
-    let made_head : ReadHead = record { tag = next.0; wire_type = type_of_value next.1 } in
+    let made_head : ReadHead = record { tag = next.0; kind = type_of_value next.1 } in
     subst (λ (k : ReadHead). Turn room l levels (inner ∷ outer) w k) s
     (record { v = next.1; next = n; type = refl; behind = x.behind; mid = x.mid; front = head_front_is x.head; contents = x.contents; after = (rest, x.after, y); more = x.more })
   where
-    same : head_in (Some next) ≡ Some h → (let k : ReadHead = record { tag = next.0; wire_type = type_of_value next.1 } in k) ≡ h
+    same : head_in (Some next) ≡ Some h → (let k : ReadHead = record { tag = next.0; kind = type_of_value next.1 } in k) ≡ h
     same e = ap (λ o. got o) e
       where
         got : Option ReadHead → ReadHead

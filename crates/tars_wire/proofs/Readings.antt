@@ -12,6 +12,7 @@ use Rattle.tars_wire.specs.declared.spot.Spot.TheVariants as spot
 use Rattle.tars_wire.specs.declared.head.FirstByte.{FirstByte}
 use Rattle.tars_wire.specs.declared.head.FirstByte.TheVariants as first
 use Rattle.tars_wire.specs.Heads.{is_end}
+use Rattle.tars_wire.specs.Spelled.{ALL}
 use Rattle.tars_wire.specs.Awaited.{tag_fault, unless, first_byte, Kind, of_bytes, of_values, of_pairs, Place, in_struct, an_element, a_key, its_value, a_size, simple_head, spot_of, Part, raw, size_first, size_later, head_of, counted, contents, size_bytes, after, Inside, parts, tag_of, head_step, part_step, tag_step}
 use Rattle.tars_wire.specs.Reading.{◌>>=◌, too_short, stops_at, judged_tag, tag_at, headed, head_at, past, unsigned_at, not_negative, size_number, size_at, reading, counted_at, fields_at, text_at, simple_list_at, sized_at, contents_at, item_at, pair_at}
 
@@ -30,22 +31,22 @@ bind_same (Err stop) f g same = refl
 -- the first byte of a head, then its tag
 head_goes : (place : Place) (below : List Part) (byte : ℕ) (rest : List ℕ) (r : Result FirstByte WireWhy)
     → elim (head_step place below r) [ Ok to ↦ reading to rest | Err fault ↦ Err (stops_at (byte ∷ rest) fault) ]
-    ≡ headed (spot_of place) r byte rest >>= (λ h. reading (parts (after place h.0.tag h.0.wire_type below)) h.1)
+    ≡ headed (spot_of place) r byte rest >>= (λ h. reading (parts (after place h.0.tag h.0.kind below)) h.1)
 unfolding tag_at
 head_goes place below byte rest (Ok (first.Whole head)) = refl
 head_goes place below byte [] (Ok (first.Long type)) = refl
-head_goes place below byte (tag ∷ rest) (Ok (first.Long type)) = go (tag_fault (spot_of place) type tag)
+head_goes place below byte (tag ∷ rest) (Ok (first.Long type)) = go (tag_fault ALL (spot_of place) type tag)
   where
     go : (f : Option WireWhy) → elim (unless f (parts (after place tag type below))) [ Ok to ↦ reading to rest | Err fault ↦ Err (stops_at (tag ∷ rest) fault) ]
-        ≡ judged_tag f type tag rest >>= (λ h. reading (parts (after place h.0.tag h.0.wire_type below)) h.1)
+        ≡ judged_tag f type tag rest >>= (λ h. reading (parts (after place h.0.tag h.0.kind below)) h.1)
     go None = refl
     go (Some fault) = refl
 head_goes place below byte rest (Err fault) = refl
 
-pub reading_head : (place : Place) (below : List Part) (w : List ℕ) → reading (parts (head_of place ∷ below)) w ≡ head_at (spot_of place) w >>= (λ h. reading (parts (after place h.0.tag h.0.wire_type below)) h.1)
+pub reading_head : (place : Place) (below : List Part) (w : List ℕ) → reading (parts (head_of place ∷ below)) w ≡ head_at (spot_of place) w >>= (λ h. reading (parts (after place h.0.tag h.0.kind below)) h.1)
 unfolding head_at
 reading_head place below [] = refl
-reading_head place below (byte ∷ rest) = head_goes place below byte rest (first_byte (spot_of place) byte)
+reading_head place below (byte ∷ rest) = head_goes place below byte rest (first_byte ALL (spot_of place) byte)
 
 -- bytes
 ltb_suc : (a b : ℕ) → ltb (suc a) (suc b) ≡ ltb a b
@@ -151,8 +152,8 @@ pub reading_size : (kind : Kind) (below : List Part) (w : List ℕ) → reading 
 unfolding size_at
 reading_size kind below w =
     reading_head (a_size kind) below w
-    ∙ (bind_same (head_at spot.Size w) (λ h. reading (parts (size_bytes kind h.0.wire_type below)) h.1) (λ h. size_number h.0.wire_type h.1 >>= (λ x. reading (parts (counted kind x.0 below)) x.1)) (λ h. reading_size_number kind h.0.wire_type below h.1)
-    ∙ sym (bind_assoc (head_at spot.Size w) (λ h. size_number h.0.wire_type h.1) (λ x. reading (parts (counted kind x.0 below)) x.1)))
+    ∙ (bind_same (head_at spot.Size w) (λ h. reading (parts (size_bytes kind h.0.kind below)) h.1) (λ h. size_number h.0.kind h.1 >>= (λ x. reading (parts (counted kind x.0 below)) x.1)) (λ h. reading_size_number kind h.0.kind below h.1)
+    ∙ sym (bind_assoc (head_at spot.Size w) (λ h. size_number h.0.kind h.1) (λ x. reading (parts (counted kind x.0 below)) x.1)))
 
 -- what is awaited behind
 abbrev push : Inside → List Part → Inside
@@ -217,7 +218,7 @@ after_push (a_size kind) tag type below more = size_push kind type below more
 after_push simple_head tag type below more = refl
 
 head_push : (place : Place) (below more : List Part) (r : Result FirstByte WireWhy) → head_step place (below ++ more) r ≡ pushed (head_step place below r) more
-head_push place below more (Ok (first.Whole head)) = ap (λ ps. Ok (parts ps)) (after_push place head.tag head.wire_type below more)
+head_push place below more (Ok (first.Whole head)) = ap (λ ps. Ok (parts ps)) (after_push place head.tag head.kind below more)
 head_push place below more (Ok (first.Long type)) = refl
 head_push place below more (Err fault) = refl
 
@@ -225,14 +226,14 @@ cond_pushed : (b : Bool) (i j : Inside) (fault : WireWhy) (more : List Part) →
 cond_pushed true i j fault more e = ap (λ k. Ok k) e
 cond_pushed false i j fault more e = refl
 
-part_push : (part : Part) (below more : List Part) (byte : ℕ) → part_step part (below ++ more) byte ≡ pushed (part_step part below byte) more
+part_push : (part : Part) (below more : List Part) (byte : ℕ) → part_step ALL part (below ++ more) byte ≡ pushed (part_step ALL part below byte) more
 part_push (raw zero) below more byte = refl
 part_push (raw (suc n)) below more byte = refl
 part_push (size_first kind zero) below more byte = cond_pushed (ltb byte 128) (parts (counted kind byte below)) (parts (counted kind byte (below ++ more))) why.BadSize more (ap parts (counted_push kind byte below more))
 part_push (size_first kind (suc n)) below more byte = cond_pushed (ltb byte 128) (parts (size_later kind n byte ∷ below)) (parts (size_later kind n byte ∷ (below ++ more))) why.BadSize more refl
 part_push (size_later kind zero so_far) below more byte = ap (λ ps. Ok (parts ps)) (counted_push kind (so_far * 256 + byte) below more)
 part_push (size_later kind (suc n) so_far) below more byte = refl
-part_push (head_of place) below more byte = head_push place below more (first_byte (spot_of place) byte)
+part_push (head_of place) below more byte = head_push place below more (first_byte ALL (spot_of place) byte)
 
 unless_push : (fault : Option WireWhy) (i j : Inside) (more : List Part) → j ≡ push i more → unless fault j ≡ pushed (unless fault i) more
 unless_push None i j more e = ap (λ k. Ok k) e
@@ -255,10 +256,10 @@ pub reading_push : (inside : Inside) (more : List Part) (w : List ℕ) → readi
 reading_push (parts []) more w = refl
 reading_push (parts (part ∷ below)) more [] = refl
 reading_push (parts (part ∷ below)) more (byte ∷ rest) =
-    one_push more byte rest (part_step part below byte) (part_step part (below ++ more) byte) (part_push part below more byte) (λ to. reading_push to more rest)
+    one_push more byte rest (part_step ALL part below byte) (part_step ALL part (below ++ more) byte) (part_push part below more byte) (λ to. reading_push to more rest)
 reading_push (tag_of place type below) more [] = refl
 reading_push (tag_of place type below) more (tag ∷ rest) =
-    one_push more tag rest (tag_step place type below tag) (tag_step place type (below ++ more) tag) (unless_push (tag_fault (spot_of place) type tag) (parts (after place tag type below)) (parts (after place tag type (below ++ more))) more (ap parts (after_push place tag type below more))) (λ to. reading_push to more rest)
+    one_push more tag rest (tag_step ALL place type below tag) (tag_step ALL place type (below ++ more) tag) (unless_push (tag_fault ALL (spot_of place) type tag) (parts (after place tag type below)) (parts (after place tag type (below ++ more))) more (ap parts (after_push place tag type below more))) (λ to. reading_push to more rest)
 
 pub reading_counted : (kind : Kind) (n : ℕ) (below : List Part) (w : List ℕ) → reading (parts (counted kind n below)) w ≡ counted_at kind n w >>= (λ v. reading (parts below) v)
 unfolding counted_at
@@ -325,31 +326,31 @@ pub one_value_more : (room n : ℕ) (w : List ℕ) → counted_at (of_values roo
 unfolding counted_at item_at
 one_value_more room n w =
     reading_head (an_element n room) [] w
-    ∙ (bind_same (head_at (spot.Item 0 room) w) (λ h. reading (parts (contents room h.0.wire_type (counted (of_values room) n []))) h.1) (λ h. contents_at room h.0.wire_type h.1 >>= counted_at (of_values room) n) (λ h. reading_contents room h.0.wire_type (counted (of_values room) n []) h.1)
-    ∙ sym (bind_assoc (head_at (spot.Item 0 room) w) (λ h. contents_at room h.0.wire_type h.1) (counted_at (of_values room) n)))
+    ∙ (bind_same (head_at (spot.Item 0 room) w) (λ h. reading (parts (contents room h.0.kind (counted (of_values room) n []))) h.1) (λ h. contents_at room h.0.kind h.1 >>= counted_at (of_values room) n) (λ h. reading_contents room h.0.kind (counted (of_values room) n []) h.1)
+    ∙ sym (bind_assoc (head_at (spot.Item 0 room) w) (λ h. contents_at room h.0.kind h.1) (counted_at (of_values room) n)))
 
 value_behind : (room n : ℕ) (w : List ℕ) → reading (parts (head_of (its_value n room) ∷ [])) w ≡ item_at 1 room w >>= counted_at (of_pairs room) n
 unfolding counted_at item_at
 value_behind room n w =
     reading_head (its_value n room) [] w
-    ∙ (bind_same (head_at (spot.Item 1 room) w) (λ h. reading (parts (contents room h.0.wire_type (counted (of_pairs room) n []))) h.1) (λ h. contents_at room h.0.wire_type h.1 >>= counted_at (of_pairs room) n) (λ h. reading_contents room h.0.wire_type (counted (of_pairs room) n []) h.1)
-    ∙ sym (bind_assoc (head_at (spot.Item 1 room) w) (λ h. contents_at room h.0.wire_type h.1) (counted_at (of_pairs room) n)))
+    ∙ (bind_same (head_at (spot.Item 1 room) w) (λ h. reading (parts (contents room h.0.kind (counted (of_pairs room) n []))) h.1) (λ h. contents_at room h.0.kind h.1 >>= counted_at (of_pairs room) n) (λ h. reading_contents room h.0.kind (counted (of_pairs room) n []) h.1)
+    ∙ sym (bind_assoc (head_at (spot.Item 1 room) w) (λ h. contents_at room h.0.kind h.1) (counted_at (of_pairs room) n)))
 
 pub one_pair_more : (room n : ℕ) (w : List ℕ) → counted_at (of_pairs room) (suc n) w ≡ pair_at room w >>= counted_at (of_pairs room) n
 unfolding counted_at pair_at item_at
 one_pair_more room n w =
     reading_head (a_key n room) [] w
-    ∙ (bind_same (head_at (spot.Item 0 room) w) (λ h. reading (parts (contents room h.0.wire_type (head_of (its_value n room) ∷ []))) h.1) (λ h. contents_at room h.0.wire_type h.1 >>= (λ v. item_at 1 room v >>= counted_at (of_pairs room) n)) (λ h. reading_contents room h.0.wire_type (head_of (its_value n room) ∷ []) h.1 ∙ bind_same (contents_at room h.0.wire_type h.1) (λ v. reading (parts (head_of (its_value n room) ∷ [])) v) (λ v. item_at 1 room v >>= counted_at (of_pairs room) n) (value_behind room n))
-    ∙ (sym (bind_assoc (head_at (spot.Item 0 room) w) (λ h. contents_at room h.0.wire_type h.1) (λ v. item_at 1 room v >>= counted_at (of_pairs room) n))
+    ∙ (bind_same (head_at (spot.Item 0 room) w) (λ h. reading (parts (contents room h.0.kind (head_of (its_value n room) ∷ []))) h.1) (λ h. contents_at room h.0.kind h.1 >>= (λ v. item_at 1 room v >>= counted_at (of_pairs room) n)) (λ h. reading_contents room h.0.kind (head_of (its_value n room) ∷ []) h.1 ∙ bind_same (contents_at room h.0.kind h.1) (λ v. reading (parts (head_of (its_value n room) ∷ [])) v) (λ v. item_at 1 room v >>= counted_at (of_pairs room) n) (value_behind room n))
+    ∙ (sym (bind_assoc (head_at (spot.Item 0 room) w) (λ h. contents_at room h.0.kind h.1) (λ v. item_at 1 room v >>= counted_at (of_pairs room) n))
     ∙ sym (bind_assoc (item_at 0 room w) (item_at 1 room) (counted_at (of_pairs room) n))))
 
 -- one field, and the others, or the end
-pub one_field_more : (from room : ℕ) (w : List ℕ) → fields_at from room w ≡ head_at (spot.Struct from room) w >>= (λ h. cond (is_end h.0.wire_type) (Ok h.1) (contents_at room h.0.wire_type h.1 >>= fields_at (h.0.tag + 1) room))
+pub one_field_more : (from room : ℕ) (w : List ℕ) → fields_at from room w ≡ head_at (spot.Struct from room) w >>= (λ h. cond (is_end h.0.kind) (Ok h.1) (contents_at room h.0.kind h.1 >>= fields_at (h.0.tag + 1) room))
 unfolding fields_at
 one_field_more from room w =
     reading_head (in_struct from room) [] w
-    ∙ bind_same (head_at (spot.Struct from room) w) (λ h. reading (parts (cond (is_end h.0.wire_type) [] (contents room h.0.wire_type (head_of (in_struct (h.0.tag + 1) room) ∷ [])))) h.1) (λ h. cond (is_end h.0.wire_type) (Ok h.1) (contents_at room h.0.wire_type h.1 >>= fields_at (h.0.tag + 1) room))
-    (λ h. go (is_end h.0.wire_type) h.0.tag h.0.wire_type h.1)
+    ∙ bind_same (head_at (spot.Struct from room) w) (λ h. reading (parts (cond (is_end h.0.kind) [] (contents room h.0.kind (head_of (in_struct (h.0.tag + 1) room) ∷ [])))) h.1) (λ h. cond (is_end h.0.kind) (Ok h.1) (contents_at room h.0.kind h.1 >>= fields_at (h.0.tag + 1) room))
+    (λ h. go (is_end h.0.kind) h.0.tag h.0.kind h.1)
   where
     go : (ends : Bool) (tag : ℕ) (type : WireType) (v : List ℕ) → reading (parts (cond ends [] (contents room type (head_of (in_struct (tag + 1) room) ∷ [])))) v ≡ cond ends (Ok v) (contents_at room type v >>= fields_at (tag + 1) room)
     go true tag type v = refl

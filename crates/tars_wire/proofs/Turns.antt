@@ -8,7 +8,7 @@ use Rattle.tars_wire.specs.declared.head.Head.{Head as ReadHead}
 use Rattle.tars_wire.specs.declared.level.Level.{Level}
 use Rattle.tars_wire.specs.declared.stop.Stop.{Stop}
 use Rattle.tars_wire.specs.Heads.{opens}
-use Rattle.tars_wire.specs.Spelled.{Contents, is_whole, is_float, is_double, is_string1, is_string4, is_simple_list, is_list, is_map, is_struct}
+use Rattle.tars_wire.specs.Spelled.{ALL, Contents, is_whole, is_float, is_double, is_string1, is_string4, is_simple_list, is_list, is_map, is_struct}
 use Rattle.tars_wire.specs.Reading.{contents_at}
 use Rattle.tars_wire.specs.Left.{Remaining, type_of_number, type_of_value, value_of_number, number_in, text_in, simple_in, is_number_type, is_text_type, is_simple_type, next_of, head_left, skipped, of_next, Left, Standing, IsLeft}
 use Rattle.tars_wire.specs.Pieces.{simple_front, text_front, head_front, number_front, less}
@@ -106,7 +106,7 @@ module _ {A : Type 0} (front : WireType → List ℕ → Option (A × List ℕ))
     (has : (v : WireValue) → sort (type_of_value v) ≡ true → (x : A) × (inside v ≡ Some x))
     (law : (room : ℕ) (type : WireType) (v : WireValue) (w rest : List ℕ) (x : A) → Contents room type v w rest → inside v ≡ Some x → front type w ≡ Some (x, rest))
     (room : ℕ) (l : Level) (levels : List Level) (left : List Remaining) (w : List ℕ) (h : ReadHead)
-    (spelled : Left room (l ∷ levels) left w) (is_next : head_left left ≡ Some h) (is_sort : sort h.wire_type ≡ true)
+    (spelled : Left room (l ∷ levels) left w) (is_next : head_left left ≡ Some h) (is_sort : sort h.kind ≡ true)
     (read : ReadHead) (behind : List ℕ) (is_read : head_front w ≡ Some (read, behind)) where
   the_turn : Turn room l levels left w h
   the_turn = turn room l levels left w h spelled is_next
@@ -120,15 +120,15 @@ module _ {A : Type 0} (front : WireType → List ℕ → Option (A × List ℕ))
   the_value : (x : A) × (inside the_turn.v ≡ Some x)
   the_value = has the_turn.v (sym (ap sort the_turn.type) ∙ is_sort)
 
-  the_front : front read.wire_type behind ≡ Some (the_value.0, the_turn.mid)
+  the_front : front read.kind behind ≡ Some (the_value.0, the_turn.mid)
   the_front =
-      ap (λ (k : ReadHead). front k.wire_type behind) same_head
-      ∙ (ap (front h.wire_type) same_rest ∙ law room h.wire_type the_turn.v the_turn.behind the_turn.mid the_value.0 the_turn.contents the_value.1)
+      ap (λ (k : ReadHead). front k.kind behind) same_head
+      ∙ (ap (front h.kind) same_rest ∙ law room h.kind the_turn.v the_turn.behind the_turn.mid the_value.0 the_turn.contents the_value.1)
 
-  pub needs : IsSome (front read.wire_type behind)
+  pub needs : IsSome (front read.kind behind)
   needs = rw the_front refl
 
-  module _ (x : A) (rest : List ℕ) (got : front read.wire_type behind ≡ Some (x, rest)) where
+  module _ (x : A) (rest : List ℕ) (got : front read.kind behind ≡ Some (x, rest)) where
     same_x : the_value.0 ≡ x
     same_x = found_first the_value.0 x the_turn.mid rest (sym the_front ∙ got)
 
@@ -151,22 +151,22 @@ module _ (room : ℕ) (l : Level) (levels : List Level) (left : List Remaining) 
   a_turn : Turn room l levels left w h
   a_turn = turn room l levels left w h spelled is_next
 
-  passed : contents_at room read.wire_type behind ≡ Ok a_turn.mid
+  passed : contents_at room read.kind behind ≡ Ok a_turn.mid
   passed =
-      ap (λ (k : ReadHead). contents_at room k.wire_type behind) (found_first read h behind a_turn.behind (sym is_read ∙ a_turn.front))
-      ∙ (ap (contents_at room h.wire_type) (found_second read h behind a_turn.behind (sym is_read ∙ a_turn.front)) ∙ contents_complete a_turn.contents)
+      ap (λ (k : ReadHead). contents_at room k.kind behind) (found_first read h behind a_turn.behind (sym is_read ∙ a_turn.front))
+      ∙ (ap (contents_at room h.kind) (found_second read h behind a_turn.behind (sym is_read ∙ a_turn.front)) ∙ contents_complete a_turn.contents)
 
-  pub can_pass : IsOk (contents_at room read.wire_type behind)
+  pub can_pass : IsOk (contents_at room read.kind behind)
   can_pass = rw passed refl
 
-  pub has_room : IsTrue (opens read.wire_type) → 0 < room
-  has_room t = go (opens h.wire_type) (room_left a_turn.contents) (sym (ap (λ (k : ReadHead). opens k.wire_type) (found_first read h behind a_turn.behind (sym is_read ∙ a_turn.front))) ∙ t)
+  pub has_room : IsTrue (opens read.kind) → 0 < room
+  has_room t = go (opens h.kind) (room_left ALL a_turn.contents) (sym (ap (λ (k : ReadHead). opens k.kind) (found_first read h behind a_turn.behind (sym is_read ∙ a_turn.front))) ∙ t)
     where
       go : (b : Bool) → (b && eqb room 0) ≡ false → b ≡ true → 0 < room
       go true e f = grind (arith, nat_tests)
       go false e f = absurd (false_true f)
 
-  module _ (rest : List ℕ) (got : contents_at room read.wire_type behind ≡ Ok rest) where
+  module _ (rest : List ℕ) (got : contents_at room read.kind behind ≡ Ok rest) where
     mid_is : a_turn.mid ≡ rest
     mid_is = ok_same a_turn.mid rest (sym passed ∙ got)
       where

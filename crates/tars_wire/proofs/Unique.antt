@@ -5,7 +5,7 @@ use Rattle.wire_words.specs.Tree.{WireNumber, zero_tag, int1, int2, int4, int8, 
 use Rattle.tars_wire.specs.declared.wire_type.WireType.{WireType}
 use Rattle.tars_wire.specs.declared.wire_type.WireType.TheVariants as wire
 use Rattle.tars_wire.specs.Heads.{Head, is_end}
-use Rattle.tars_wire.specs.Spelled.{Bytes, no_bytes, byte, signed, Number, is_zero_tag, is_int1, is_int2, is_int4, is_int8, IsSize, Size, Contents, is_whole, is_float, is_double, is_string1, is_string4, is_simple_list, is_list, is_map, is_struct, Values, no_more_values, one_value, Pairs, no_more_pairs, one_pair, Fields, no_more_fields, one_field}
+use Rattle.tars_wire.specs.Spelled.{Rules, Bytes, no_bytes, byte, signed, Number, is_zero_tag, is_int1, is_int2, is_int4, is_int8, IsSize, Size, ContentsBy, Contents, is_whole, is_float, is_double, is_string1, is_string4, is_simple_list, is_list, is_map, is_struct, Values, no_more_values, one_value, Pairs, no_more_pairs, one_pair, Fields, no_more_fields, one_field}
 use Rattle.tars_wire.proofs.HeadLemmas.{same_head, by_head}
 
 -- two readings of the same bytes are one
@@ -48,7 +48,7 @@ same_size {m} {n} {input} {rest} {rest'} a b =
     let same = same_number a.contents behind in
     record { value = one_size b.number m n (subst (λ (k : WireNumber). IsSize k m) same.value a.size) b.size; left = same.left }
 
-pub not_end : {room : ℕ} {type : WireType} {v : WireValue} {input rest : List ℕ} → Contents room type v input rest → is_end type ≡ false
+pub not_end : {rules : Rules} {room : ℕ} {type : WireType} {v : WireValue} {input rest : List ℕ} → ContentsBy rules room type v input rest → is_end type ≡ false
 not_end (is_whole is_zero_tag) = refl
 not_end (is_whole (is_int1 bytes e)) = refl
 not_end (is_whole (is_int2 bytes e)) = refl

@@ -1,4 +1,5 @@
--- What may stand next, and why a byte may not (docs/PROTOCOL.md, "The place of a fault").
+-- What may stand next, and why a byte may not: the steps of a reader, for the proofs and the private
+-- functions alone. What a fault is stands in Faults.
 use Rattle.std.specs.Prelude.{ℕ, zero, suc, ◌+◌, ◌-◌, ◌*◌, ◌/◌, ◌%◌, ◌==◌, nat_lt, nat_le, Bool, true, false, ◌&&◌, ◌||◌, if◌then◌else◌, List, [], ◌∷◌, Option, Some, None, Result, Ok, Err}
 use Rattle.tars_wire.specs.declared.wire_type.WireType.{WireType}
 use Rattle.tars_wire.specs.declared.wire_type.WireType.TheVariants as wire
@@ -8,7 +9,8 @@ use Rattle.tars_wire.specs.declared.spot.Spot.{Spot}
 use Rattle.tars_wire.specs.declared.spot.Spot.TheVariants as spot
 use Rattle.tars_wire.specs.declared.head.FirstByte.{FirstByte}
 use Rattle.tars_wire.specs.declared.head.FirstByte.TheVariants as first
-use Rattle.tars_wire.specs.Heads.{MOST_DEPTH, type_of, opens, is_end}
+use Rattle.tars_wire.specs.Heads.{MAX_DEPTH, type_of, opens, is_end}
+use Rattle.tars_wire.specs.Spelled.{Rules}
 
 -- the types of a size
 abbrev pub is_size : WireType → Bool
@@ -34,32 +36,36 @@ takes (spot.Item tag room) type = not (is_end type)
 takes spot.Size type = is_size type
 takes spot.Simple type = is_int1 type
 
--- A tag is not below `from`. The last tag of all is judged at the head's first byte (`is_full`).
-abbrev pub order_fault : ℕ → ℕ → Option WireWhy
-order_fault from tag = if nat_le from tag || tag == 255 then None else Some why.Order
+-- A tag is not below `from`, where rising tags are kept. The last tag of all is judged at the head's first
+-- byte (`is_full`).
+abbrev pub order_fault : Bool → ℕ → ℕ → Option WireWhy
+order_fault true from tag = if nat_le from tag || tag == 255 then None else Some why.Order
+order_fault false from tag = None
 
-abbrev pub wrong_tag : ℕ → ℕ → Option WireWhy
-wrong_tag wanted tag = if tag == wanted then None else Some why.BadTag
+-- the tag is this one, where fixed tags are kept
+abbrev pub wrong_tag : Bool → ℕ → ℕ → Option WireWhy
+wrong_tag true wanted tag = if tag == wanted then None else Some why.BadTag
+wrong_tag false wanted tag = None
 
 -- then the tag, where the byte holds it
-unfoldable pub tag_fault : Spot → WireType → ℕ → Option WireWhy
-tag_fault (spot.Body from) type tag = order_fault from tag
-tag_fault (spot.Struct from room) type tag = if is_end type then wrong_tag 0 tag else order_fault from tag
-tag_fault (spot.Item wanted room) type tag = wrong_tag wanted tag
-tag_fault spot.Size type tag = wrong_tag 0 tag
-tag_fault spot.Simple type tag = wrong_tag 0 tag
+unfoldable pub tag_fault : Rules → Spot → WireType → ℕ → Option WireWhy
+tag_fault rules (spot.Body from) type tag = order_fault rules.rising_tags from tag
+tag_fault rules (spot.Struct from room) type tag = if is_end type then wrong_tag rules.fixed_tags 0 tag else order_fault rules.rising_tags from tag
+tag_fault rules (spot.Item wanted room) type tag = wrong_tag rules.fixed_tags wanted tag
+tag_fault rules spot.Size type tag = wrong_tag rules.fixed_tags 0 tag
+tag_fault rules spot.Simple type tag = wrong_tag rules.fixed_tags 0 tag
 
 -- after tag 255 no tag is left for a field
-unfoldable pub is_full : Spot → WireType → Bool
-is_full (spot.Body from) type = nat_lt 255 from
-is_full (spot.Struct from room) type = not (is_end type) && nat_lt 255 from
-is_full _ type = false
+unfoldable pub is_full : Rules → Spot → WireType → Bool
+is_full rules (spot.Body from) type = rules.rising_tags && nat_lt 255 from
+is_full rules (spot.Struct from room) type = not (is_end type) && (rules.rising_tags && nat_lt 255 from)
+is_full rules _ type = false
 
 -- then the depth
-unfoldable pub is_deep : Spot → WireType → Bool
-is_deep (spot.Struct from room) type = opens type && room == 0
-is_deep (spot.Item tag room) type = opens type && room == 0
-is_deep _ type = false
+unfoldable pub is_deep : Rules → Spot → WireType → Bool
+is_deep rules (spot.Struct from room) type = opens type && (rules.depth && room == 0)
+is_deep rules (spot.Item tag room) type = opens type && (rules.depth && room == 0)
+is_deep rules _ type = false
 
 abbrev pub unless : {X : Type 0} → Option WireWhy → X → Result X WireWhy
 unless None x = Ok x
@@ -70,30 +76,30 @@ abbrev pub sooner : Option WireWhy → Option WireWhy → Option WireWhy
 sooner None other = other
 sooner (Some fault) other = Some fault
 
-abbrev pub depth_fault : Spot → WireType → Option WireWhy
-depth_fault place type = if is_deep place type then Some why.Depth else None
+abbrev pub depth_fault : Rules → Spot → WireType → Option WireWhy
+depth_fault rules place type = if is_deep rules place type then Some why.Depth else None
 
 -- the first that is wrong, of a head in one byte
-unfoldable pub short_fault : Spot → WireType → ℕ → Option WireWhy
-short_fault place type tag = sooner (tag_fault place type tag) (depth_fault place type)
+unfoldable pub short_fault : Rules → Spot → WireType → ℕ → Option WireWhy
+short_fault rules place type tag = sooner (tag_fault rules place type tag) (depth_fault rules place type)
 
 -- and of the first byte of a long one
-unfoldable pub long_fault : Spot → WireType → Option WireWhy
-long_fault place type = if is_full place type then Some why.Order else depth_fault place type
+unfoldable pub long_fault : Rules → Spot → WireType → Option WireWhy
+long_fault rules place type = if is_full rules place type then Some why.Order else depth_fault rules place type
 
 -- what a head's first byte says at a place, by its type and its high four bits
-unfoldable pub judged_byte : Spot → WireType → ℕ → Result FirstByte WireWhy
-judged_byte place type high =
+unfoldable pub judged_byte : Rules → Spot → WireType → ℕ → Result FirstByte WireWhy
+judged_byte rules place type high =
     if takes place type
-    then (if high == 15 then unless (long_fault place type) (first.Long type) else unless (short_fault place type high) (first.Whole (record { tag = high; wire_type = type })))
+    then (if high == 15 then unless (long_fault rules place type) (first.Long type) else unless (short_fault rules place type high) (first.Whole (record { tag = high; kind = type })))
     else Err why.BadType
 
-abbrev pub typed_byte : Spot → Option WireType → ℕ → Result FirstByte WireWhy
-typed_byte place None high = Err why.BadType
-typed_byte place (Some type) high = judged_byte place type high
+abbrev pub typed_byte : Rules → Spot → Option WireType → ℕ → Result FirstByte WireWhy
+typed_byte rules place None high = Err why.BadType
+typed_byte rules place (Some type) high = judged_byte rules place type high
 
-unfoldable pub first_byte : Spot → ℕ → Result FirstByte WireWhy
-first_byte place byte = typed_byte place (type_of (byte % 16)) (byte / 16)
+unfoldable pub first_byte : Rules → Spot → ℕ → Result FirstByte WireWhy
+first_byte rules place byte = typed_byte rules place (type_of (byte % 16)) (byte / 16)
 
 -- what a size counts
 pub data Kind : Type 0 where
@@ -174,22 +180,27 @@ pub data Inside : Type 0 where
   tag_of : Place → WireType → List Part → Inside
 
 abbrev pub head_step : Place → List Part → Result FirstByte WireWhy → Result Inside WireWhy
-head_step place below (Ok (first.Whole head)) = Ok (parts (after place head.tag head.wire_type below))
+head_step place below (Ok (first.Whole head)) = Ok (parts (after place head.tag head.kind below))
 head_step place below (Ok (first.Long type)) = Ok (tag_of place type below)
 head_step place below (Err fault) = Err fault
 
--- one byte further
-abbrev pub part_step : Part → List Part → ℕ → Result Inside WireWhy
-part_step (raw zero) below byte = Ok (parts below)
-part_step (raw (suc more)) below byte = Ok (parts (raw more ∷ below))
-part_step (size_first kind zero) below byte = if nat_lt byte 128 then Ok (parts (counted kind byte below)) else Err why.BadSize
-part_step (size_first kind (suc more)) below byte = if nat_lt byte 128 then Ok (parts (size_later kind more byte ∷ below)) else Err why.BadSize
-part_step (size_later kind zero so_far) below byte = Ok (parts (counted kind (so_far * 256 + byte) below))
-part_step (size_later kind (suc more) so_far) below byte = Ok (parts (size_later kind more (so_far * 256 + byte) ∷ below))
-part_step (head_of place) below byte = head_step place below (first_byte (spot_of place) byte)
+-- a size that is negative: its other bytes are passed, and nothing is counted
+abbrev pub negative : Bool → ℕ → List Part → Result Inside WireWhy
+negative true more below = Err why.BadSize
+negative false more below = Ok (parts (counted of_bytes more below))
 
-abbrev pub tag_step : Place → WireType → List Part → ℕ → Result Inside WireWhy
-tag_step place type below tag = unless (tag_fault (spot_of place) type tag) (parts (after place tag type below))
+-- one byte further
+abbrev pub part_step : Rules → Part → List Part → ℕ → Result Inside WireWhy
+part_step rules (raw zero) below byte = Ok (parts below)
+part_step rules (raw (suc more)) below byte = Ok (parts (raw more ∷ below))
+part_step rules (size_first kind zero) below byte = if nat_lt byte 128 then Ok (parts (counted kind byte below)) else negative rules.sizes zero below
+part_step rules (size_first kind (suc more)) below byte = if nat_lt byte 128 then Ok (parts (size_later kind more byte ∷ below)) else negative rules.sizes (suc more) below
+part_step rules (size_later kind zero so_far) below byte = Ok (parts (counted kind (so_far * 256 + byte) below))
+part_step rules (size_later kind (suc more) so_far) below byte = Ok (parts (size_later kind more (so_far * 256 + byte) ∷ below))
+part_step rules (head_of place) below byte = head_step place below (first_byte rules (spot_of place) byte)
+
+abbrev pub tag_step : Rules → Place → WireType → List Part → ℕ → Result Inside WireWhy
+tag_step rules place type below tag = unless (tag_fault rules (spot_of place) type tag) (parts (after place tag type below))
 
 -- Before a byte of a body: inside a field, behind which the tags go on with one from `from` on; or behind
 -- the first byte of a long head.
@@ -202,15 +213,15 @@ lift_step from (Ok inside) = Ok (within inside from)
 lift_step from (Err fault) = Err fault
 
 abbrev pub body_step : ℕ → Result FirstByte WireWhy → Result State WireWhy
-body_step from (Ok (first.Whole head)) = Ok (within (parts (contents MOST_DEPTH head.wire_type [])) (head.tag + 1))
+body_step from (Ok (first.Whole head)) = Ok (within (parts (contents MAX_DEPTH head.kind [])) (head.tag + 1))
 body_step from (Ok (first.Long type)) = Ok (body_tag from type)
 body_step from (Err fault) = Err fault
 
-abbrev pub step : State → ℕ → Result State WireWhy
-step (within (parts []) from) byte = body_step from (first_byte (spot.Body from) byte)
-step (within (parts (part ∷ below)) from) byte = lift_step from (part_step part below byte)
-step (within (tag_of place type below) from) tag = lift_step from (tag_step place type below tag)
-step (body_tag from type) tag = unless (tag_fault (spot.Body from) type tag) (within (parts (contents MOST_DEPTH type [])) (tag + 1))
+abbrev pub step : Rules → State → ℕ → Result State WireWhy
+step rules (within (parts []) from) byte = body_step from (first_byte rules (spot.Body from) byte)
+step rules (within (parts (part ∷ below)) from) byte = lift_step from (part_step rules part below byte)
+step rules (within (tag_of place type below) from) tag = lift_step from (tag_step rules place type below tag)
+step rules (body_tag from type) tag = unless (tag_fault rules (spot.Body from) type tag) (within (parts (contents MAX_DEPTH type [])) (tag + 1))
 
 -- a body may end between two fields
 abbrev pub may_end : State → Bool

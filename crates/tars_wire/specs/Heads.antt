@@ -4,8 +4,8 @@ use Rattle.tars_wire.specs.declared.wire_type.WireType.{WireType}
 use Rattle.tars_wire.specs.declared.wire_type.WireType.TheVariants as wire
 
 -- how many lists, maps and structs may stand inside one another
-abbrev pub MOST_DEPTH : ℕ
-MOST_DEPTH = 64
+abbrev pub MAX_DEPTH : ℕ
+MAX_DEPTH = 64
 
 -- the type of a code; 14 and 15 have none
 unfoldable pub type_of : ℕ → Option WireType

@@ -8,7 +8,7 @@ use Rattle.tars_wire.specs.declared.wire_type.WireType.TheVariants as wire
 use Rattle.tars_wire.specs.declared.head.Head.{Head as ReadHead}
 use Rattle.tars_wire.specs.declared.level.Level.{Level}
 use Rattle.tars_wire.specs.declared.level.Level.TheVariants as level
-use Rattle.tars_wire.specs.Heads.{MOST_DEPTH, Head}
+use Rattle.tars_wire.specs.Heads.{MAX_DEPTH, Head}
 use Rattle.tars_wire.specs.Spelled.{Contents, Values, Pairs, Fields}
 
 -- what is left at one level: of a body or a struct, of a list, of a map before a key, or before the value of a key
@@ -99,7 +99,7 @@ next_of (inner ∷ outer) = next_field inner
 
 abbrev pub head_in : Option (ℕ × WireValue) → Option ReadHead
 head_in None = None
-head_in (Some next) = Some (record { tag = next.0; wire_type = type_of_value next.1 })
+head_in (Some next) = Some (record { tag = next.0; kind = type_of_value next.1 })
 
 -- its head; None at the end of the innermost level
 abbrev pub head_left : List Remaining → Option ReadHead
@@ -159,9 +159,9 @@ IsLeft cursor left = Left cursor.room cursor.levels left cursor.bytes
 
 -- what holds of every cursor: its bytes spell something at each level
 pub record Stands (bytes : List ℕ) (here : Level) (outer : List Level) (depth : ℕ) : Type 0 where
-  pub deep : depth ≤ MOST_DEPTH
+  pub deep : depth ≤ MAX_DEPTH
   pub left : List Remaining
-  pub spelled : Left (MOST_DEPTH - depth) (here ∷ levels_around outer depth) left bytes
+  pub spelled : Left (MAX_DEPTH - depth) (here ∷ levels_around outer depth) left bytes
 
 -- a level with what is left at it
 pub record SomeLevel (here : Level) (bytes : List ℕ) : Type 0 where
@@ -206,7 +206,7 @@ pub record IsNext (cursor : Standing) (head : ReadHead) : Type 0 where
 pub record NextIs (cursor : Standing) (sort : WireType → Bool) : Type 0 where
   pub head : ReadHead
   pub next : IsNext cursor head
-  pub is_sort : sort head.wire_type ≡ true
+  pub is_sort : sort head.kind ≡ true
 
 -- something was entered and not left yet
 pub record HasEntered (cursor : Standing) : Type 0 where

@@ -15,11 +15,11 @@ None >>= f = None
 
 abbrev pub long_front : WireType → List ℕ → Option (Head × List ℕ)
 long_front type [] = None
-long_front type (tag ∷ rest) = Some (record { tag = tag; wire_type = type }, rest)
+long_front type (tag ∷ rest) = Some (record { tag = tag; kind = type }, rest)
 
 abbrev pub typed_front : Option WireType → ℕ → List ℕ → Option (Head × List ℕ)
 typed_front None high rest = None
-typed_front (Some type) high rest = if nat_lt high 15 then Some (record { tag = high; wire_type = type }, rest) else long_front type rest
+typed_front (Some type) high rest = if nat_lt high 15 then Some (record { tag = high; kind = type }, rest) else long_front type rest
 
 -- a head in either form
 unfoldable pub head_front : List ℕ → Option (Head × List ℕ)
@@ -50,7 +50,7 @@ natural (pos n) = if nat_lt n (2 ^ 31) then Some n else None
 natural (negsuc n) = None
 
 unfoldable pub size_front : List ℕ → Option (ℕ × List ℕ)
-size_front bytes = head_front bytes >>= λ head. number_front head.0.wire_type head.1 >>= λ number. natural number.0 >>= λ n. Some (n, number.1)
+size_front bytes = head_front bytes >>= λ head. number_front head.0.kind head.1 >>= λ number. natural number.0 >>= λ n. Some (n, number.1)
 
 unfoldable pub text_front : WireType → List ℕ → Option (List ℕ × List ℕ)
 text_front wire.String1 bytes = unsigned_front w8 bytes >>= λ size. bytes_front size.0 size.1

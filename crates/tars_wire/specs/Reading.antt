@@ -12,6 +12,7 @@ use Rattle.tars_wire.specs.declared.spot.Spot.TheVariants as spot
 use Rattle.tars_wire.specs.declared.head.Head.{Head}
 use Rattle.tars_wire.specs.declared.head.FirstByte.{FirstByte}
 use Rattle.tars_wire.specs.declared.head.FirstByte.TheVariants as first
+use Rattle.tars_wire.specs.Spelled.{ALL}
 use Rattle.tars_wire.specs.Awaited.{tag_fault, first_byte, Kind, of_values, of_pairs, in_struct, head_of, counted, Inside, parts, tag_of, part_step, tag_step, State, within, step, may_end}
 
 infixl 10 ◌>>=◌
@@ -31,13 +32,13 @@ abbrev pub stops_at : List ℕ → WireWhy → Stop
 stops_at bytes fault = record { left = length bytes; why = fault }
 
 abbrev pub judged_tag : Option WireWhy → WireType → ℕ → List ℕ → Result (Head × List ℕ) Stop
-judged_tag None type tag rest = Ok (record { tag = tag; wire_type = type }, rest)
+judged_tag None type tag rest = Ok (record { tag = tag; kind = type }, rest)
 judged_tag (Some fault) type tag rest = Err (stops_at (tag ∷ rest) fault)
 
 -- a tag in a byte of its own
 unfoldable pub tag_at : Spot → WireType → List ℕ → Result (Head × List ℕ) Stop
 tag_at place type [] = Err too_short
-tag_at place type (tag ∷ rest) = judged_tag (tag_fault place type tag) type tag rest
+tag_at place type (tag ∷ rest) = judged_tag (tag_fault ALL place type tag) type tag rest
 
 abbrev pub headed : Spot → Result FirstByte WireWhy → ℕ → List ℕ → Result (Head × List ℕ) Stop
 headed place (Ok (first.Whole head)) byte rest = Ok (head, rest)
@@ -47,7 +48,7 @@ headed place (Err fault) byte rest = Err (stops_at (byte ∷ rest) fault)
 -- a head in either form
 unfoldable pub head_at : Spot → List ℕ → Result (Head × List ℕ) Stop
 head_at place [] = Err too_short
-head_at place (byte ∷ rest) = headed place (first_byte place byte) byte rest
+head_at place (byte ∷ rest) = headed place (first_byte ALL place byte) byte rest
 
 -- past so many bytes
 unfoldable pub past : ℕ → List ℕ → Result (List ℕ) Stop
@@ -70,17 +71,17 @@ size_number wire.Int4 bytes = not_negative bytes >>= unsigned_at w32
 size_number _ bytes = Ok (0, bytes)
 
 unfoldable pub size_at : List ℕ → Result (ℕ × List ℕ) Stop
-size_at bytes = head_at spot.Size bytes >>= λ head. size_number head.0.wire_type head.1
+size_at bytes = head_at spot.Size bytes >>= λ head. size_number head.0.kind head.1
 
 -- past what is awaited inside a field
 abbrev pub reading : Inside → List ℕ → Result (List ℕ) Stop
 reading (parts []) bytes = Ok bytes
 reading (parts (part ∷ below)) [] = Err too_short
 reading (parts (part ∷ below)) (byte ∷ rest) =
-    elim (part_step part below byte) [ Ok to ↦ reading to rest | Err fault ↦ Err (stops_at (byte ∷ rest) fault) ]
+    elim (part_step ALL part below byte) [ Ok to ↦ reading to rest | Err fault ↦ Err (stops_at (byte ∷ rest) fault) ]
 reading (tag_of place type below) [] = Err too_short
 reading (tag_of place type below) (tag ∷ rest) =
-    elim (tag_step place type below tag) [ Ok to ↦ reading to rest | Err fault ↦ Err (stops_at (tag ∷ rest) fault) ]
+    elim (tag_step ALL place type below tag) [ Ok to ↦ reading to rest | Err fault ↦ Err (stops_at (tag ∷ rest) fault) ]
 
 -- past so many values or pairs
 unfoldable pub counted_at : Kind → ℕ → List ℕ → Result (List ℕ) Stop
@@ -119,7 +120,7 @@ contents_at room wire.SimpleList bytes = simple_list_at bytes
 
 -- past an element, a key or a map's value
 unfoldable pub item_at : ℕ → ℕ → List ℕ → Result (List ℕ) Stop
-item_at tag room bytes = head_at (spot.Item tag room) bytes >>= λ head. contents_at room head.0.wire_type head.1
+item_at tag room bytes = head_at (spot.Item tag room) bytes >>= λ head. contents_at room head.0.kind head.1
 
 unfoldable pub pair_at : ℕ → List ℕ → Result (List ℕ) Stop
 pair_at room bytes = item_at 0 room bytes >>= item_at 1 room
@@ -127,7 +128,7 @@ pair_at room bytes = item_at 0 room bytes >>= item_at 1 room
 -- to the end of a body
 abbrev pub judging : State → List ℕ → Result (List ℕ) Stop
 judging state [] = if may_end state then Ok [] else Err too_short
-judging state (byte ∷ rest) = elim (step state byte) [ Ok to ↦ judging to rest | Err fault ↦ Err (stops_at (byte ∷ rest) fault) ]
+judging state (byte ∷ rest) = elim (step ALL state byte) [ Ok to ↦ judging to rest | Err fault ↦ Err (stops_at (byte ∷ rest) fault) ]
 
 unfoldable pub body_at : ℕ → List ℕ → Result (List ℕ) Stop
 body_at from bytes = judging (within (parts []) from) bytes

@@ -1,6 +1,6 @@
 ghost use Rattle.std.specs.Prelude.{◌≡◌, ℕ, List, [], ◌∷◌};
 ghost use Rattle.wire_words.specs.Tree.{WireFields};
-ghost use Rattle.tars_wire.specs.Heads.{MOST_DEPTH};
+ghost use Rattle.tars_wire.specs.Heads.{MAX_DEPTH};
 ghost use Rattle.tars_wire.specs.Spelled.{IsBody, Spelled};
 ghost use Rattle.tars_wire.specs.Left.{fields_left, IsLeft};
 
@@ -39,8 +39,8 @@ impl<'a> Checked<'a> {
 
     /// A walk over its fields.
     pub fn cursor(&self) -> Cursor<'a>
-        ensures left { (fields : WireFields) → Spelled MOST_DEPTH self.now fields → IsLeft result (fields_left fields ∷ []) }
-        ensures some { (fields : WireFields) × Spelled MOST_DEPTH self.now fields }
+        ensures left { (fields : WireFields) → Spelled MAX_DEPTH self.now fields → IsLeft result (fields_left fields ∷ []) }
+        ensures some { (fields : WireFields) × Spelled MAX_DEPTH self.now fields }
     {
         Cursor::over(self.bytes)
     }

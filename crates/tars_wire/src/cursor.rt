@@ -18,12 +18,12 @@ pub struct Cursor<'a> {
 
 impl<'a> Model for Cursor<'a> {
     ghost use Rattle.std.specs.Prelude.{◌-◌, ◌∷◌};
-    ghost use Rattle.tars_wire.specs.Heads.{MOST_DEPTH};
+    ghost use Rattle.tars_wire.specs.Heads.{MAX_DEPTH};
     ghost use Rattle.tars_wire.specs.Left.{Standing, Stands, levels_around};
 
     ghost Value = { Standing };
 
-    ghost view = { λ c. record { bytes = c.rest.now; room = MOST_DEPTH - c.depth; levels = c.here ∷ levels_around c.outer c.depth } };
+    ghost view = { λ c. record { bytes = c.rest.now; room = MAX_DEPTH - c.depth; levels = c.here ∷ levels_around c.outer c.depth } };
 
     ghost invariant = { λ c. Stands c.rest.now c.here c.outer c.depth };
 }

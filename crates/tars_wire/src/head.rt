@@ -4,7 +4,7 @@ use crate::wire_type::WireType;
 #[derive(Clone, Copy, Debug, PartialEq, Eq)]
 pub struct Head {
     pub tag: u8,
-    pub wire_type: WireType,
+    pub kind: WireType,
 }
 
 /// What the first byte of a head says.

@@ -1,13 +1,22 @@
 //! Laws of the grammar. The functions do nothing: each is its contract.
 
-ghost use Rattle.std.specs.Prelude.{◌≡◌, ◌↔◌, ℕ, List, [], ◌++◌, length};
+ghost use Rattle.std.specs.Prelude.{◌⊎◌, ◌≡◌, ◌<◌, ◌↔◌, ℕ, List, [], ◌++◌, length, All};
 ghost use Rattle.tars_wire.specs.declared.wire_fault.WireFault.{WireFault};
-ghost use Rattle.tars_wire.specs.Faults.{IsFault};
+ghost use Rattle.tars_wire.specs.Faults.{IsFault, HasFault};
+ghost use Rattle.tars_wire.specs.Heads.{MAX_DEPTH};
 ghost use Rattle.wire_words.specs.Tree.{WireValue, WireFields};
-ghost use Rattle.tars_wire.specs.Spelled.{Spelled, SpelledField};
+ghost use Rattle.tars_wire.specs.Spelled.{IsBody, Spelled, SpelledField};
 ghost use Rattle.tars_wire.specs.Left.{Standing, Remaining, IsLeft};
 
+use crate::spot::{LAST_TAG, LONG_FORM, MAX_OPEN};
 use crate::wire_fault::WireWhy;
+
+/// The limits, as numbers.
+pub fn limits()
+    ensures depth { (MAX_OPEN ≡ 64) × (MAX_DEPTH ≡ 64) }
+    ensures long_form { LONG_FORM ≡ 15 }
+    ensures last_tag { LAST_TAG ≡ 255 }
+{}
 
 /// Bytes spell one list of fields at most.
 #[tactic(auto, using(crate::proofs::Extends::one_reading_law))]
@@ -19,6 +28,13 @@ pub fn one_reading()
 #[tactic(auto, using(crate::proofs::Extends::no_prefix_law))]
 pub fn no_spelling_begins_another()
     ensures { (room other_room tag other_tag : ℕ) (value other : WireValue) (bytes more : List ℕ) → SpelledField room tag value bytes → SpelledField other_room other_tag other (bytes ++ more) → more ≡ [] }
+{}
+
+/// Bytes are a body or they have a fault, never both, and no more than one fault.
+pub fn one_outcome()
+    ensures some { (bytes : List ℕ) → All (λ byte. byte < 256) bytes → IsBody bytes ⊎ HasFault bytes }
+    ensures not_both { (bytes : List ℕ) → IsBody bytes → HasFault bytes → ⊥ }
+    ensures one { (bytes : List ℕ) (fault other : WireFault) → All (λ byte. byte < 256) bytes → IsFault bytes fault → IsFault bytes other → fault ≡ other }
 {}
 
 /// The reason of a fault is `Short` exactly where its place is the end of the bytes.

@@ -18,7 +18,10 @@ mod wire_type;
 pub use checked::Checked;
 pub use cursor::Cursor;
 pub use head::Head;
-pub use laws::{no_spelling_begins_another, one_reading, one_remainder, short_is_at_the_end};
+pub use laws::{
+    limits, no_spelling_begins_another, one_outcome, one_reading, one_remainder,
+    short_is_at_the_end,
+};
 pub use scanner::scan;
 pub use wire_fault::{WireFault, WireWhy};
 pub use wire_type::WireType;

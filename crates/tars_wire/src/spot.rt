@@ -1,4 +1,5 @@
-ghost use Rattle.std.specs.Prelude.{◌≡◌, ◌<◌};
+ghost use Rattle.std.specs.Prelude.{◌≡◌, ◌<◌, true};
+ghost use Rattle.tars_wire.specs.Spelled.{ALL};
 ghost use Rattle.tars_wire.specs.Awaited.{order_fault, wrong_tag, takes, tag_fault, is_full, is_deep, short_fault, long_fault, judged_byte, first_byte};
 
 use crate::head::{FirstByte, Head};
@@ -6,13 +7,13 @@ use crate::wire_fault::WireWhy;
 use crate::wire_type::WireType;
 
 /// How many lists, maps and structs may stand inside one another.
-pub const MOST_OPEN: u8 = 64;
+pub const MAX_OPEN: u8 = 64;
 
 /// The high four bits of a head whose tag is in a byte of its own.
-const LONG_FORM: u8 = 15;
+pub const LONG_FORM: u8 = 15;
 
 /// The highest tag.
-const LAST_TAG: u8 = 255;
+pub const LAST_TAG: u8 = 255;
 
 /// Where a head is read, and so which types and tags may stand there.
 #[derive(Clone, Copy, Debug, PartialEq, Eq)]
@@ -31,7 +32,7 @@ pub enum Spot {
 }
 
 fn order_fault(from: u16, tag: u8) -> Option<WireWhy>
-    ensures { result ≡ order_fault from tag }
+    ensures { result ≡ order_fault true from tag }
 {
     if from <= u16::from(tag) || tag == LAST_TAG {
         None
@@ -41,7 +42,7 @@ fn order_fault(from: u16, tag: u8) -> Option<WireWhy>
 }
 
 fn wrong_tag(wanted: u8, tag: u8) -> Option<WireWhy>
-    ensures { result ≡ wrong_tag wanted tag }
+    ensures { result ≡ wrong_tag true wanted tag }
 {
     if tag == wanted {
         None
@@ -53,27 +54,27 @@ fn wrong_tag(wanted: u8, tag: u8) -> Option<WireWhy>
 impl Spot {
     /// Whether a head of this type may stand here.
     #[tactic(auto, unfolding(crate::specs::Awaited::takes))]
-    fn takes(self, wire_type: WireType) -> bool
-        ensures { result ≡ takes self wire_type }
+    fn takes(self, kind: WireType) -> bool
+        ensures { result ≡ takes self kind }
     {
         match self {
-            Spot::Body { .. } => !wire_type.is_end(),
+            Spot::Body { .. } => !kind.is_end(),
             Spot::Struct { .. } => true,
-            Spot::Item { .. } => !wire_type.is_end(),
-            Spot::Size => wire_type.is_size(),
-            Spot::Simple => wire_type == WireType::Int1,
+            Spot::Item { .. } => !kind.is_end(),
+            Spot::Size => kind.is_size(),
+            Spot::Simple => kind == WireType::Int1,
         }
     }
 
     /// What is wrong with a tag here. The last tag of all is judged at the head's first byte (`is_full`).
     #[tactic(auto, unfolding(crate::specs::Awaited::tag_fault))]
-    pub fn tag_fault(self, wire_type: WireType, tag: u8) -> Option<WireWhy>
-        ensures { result ≡ tag_fault self wire_type tag }
+    pub fn tag_fault(self, kind: WireType, tag: u8) -> Option<WireWhy>
+        ensures { result ≡ tag_fault ALL self kind tag }
     {
         match self {
             Spot::Body { from } => order_fault(from, tag),
             Spot::Struct { from, .. } => {
-                if wire_type.is_end() {
+                if kind.is_end() {
                     wrong_tag(0, tag)
                 } else {
                     order_fault(from, tag)
@@ -87,36 +88,36 @@ impl Spot {
 
     /// Whether no tag is left for a field, since the one before had the last.
     #[tactic(auto, unfolding(crate::specs::Awaited::is_full))]
-    fn is_full(self, wire_type: WireType) -> bool
-        ensures { result ≡ is_full self wire_type }
+    fn is_full(self, kind: WireType) -> bool
+        ensures { result ≡ is_full ALL self kind }
     {
         match self {
             Spot::Body { from } => from > u16::from(LAST_TAG),
-            Spot::Struct { from, .. } => !wire_type.is_end() && from > u16::from(LAST_TAG),
+            Spot::Struct { from, .. } => !kind.is_end() && from > u16::from(LAST_TAG),
             _ => false,
         }
     }
 
     /// Whether a list, map or struct would be one too many inside one another.
     #[tactic(auto, unfolding(crate::specs::Awaited::is_deep))]
-    fn is_deep(self, wire_type: WireType) -> bool
-        ensures { result ≡ is_deep self wire_type }
+    fn is_deep(self, kind: WireType) -> bool
+        ensures { result ≡ is_deep ALL self kind }
     {
         match self {
-            Spot::Struct { room, .. } => wire_type.opens() && room == 0,
-            Spot::Item { room, .. } => wire_type.opens() && room == 0,
+            Spot::Struct { room, .. } => kind.opens() && room == 0,
+            Spot::Item { room, .. } => kind.opens() && room == 0,
             _ => false,
         }
     }
 
     #[tactic(auto, unfolding(crate::specs::Awaited::short_fault))]
-    fn short_fault(self, wire_type: WireType, tag: u8) -> Option<WireWhy>
-        ensures { result ≡ short_fault self wire_type tag }
+    fn short_fault(self, kind: WireType, tag: u8) -> Option<WireWhy>
+        ensures { result ≡ short_fault ALL self kind tag }
     {
-        if let Some(fault) = self.tag_fault(wire_type, tag) {
+        if let Some(fault) = self.tag_fault(kind, tag) {
             return Some(fault);
         }
-        if self.is_deep(wire_type) {
+        if self.is_deep(kind) {
             Some(WireWhy::Depth)
         } else {
             None
@@ -124,13 +125,13 @@ impl Spot {
     }
 
     #[tactic(auto, unfolding(crate::specs::Awaited::long_fault))]
-    fn long_fault(self, wire_type: WireType) -> Option<WireWhy>
-        ensures { result ≡ long_fault self wire_type }
+    fn long_fault(self, kind: WireType) -> Option<WireWhy>
+        ensures { result ≡ long_fault ALL self kind }
     {
-        if self.is_full(wire_type) {
+        if self.is_full(kind) {
             return Some(WireWhy::Order);
         }
-        if self.is_deep(wire_type) {
+        if self.is_deep(kind) {
             Some(WireWhy::Depth)
         } else {
             None
@@ -141,23 +142,20 @@ impl Spot {
     /// first, then the tag where the byte holds it, then the depth.
     #[tactic(auto, unfolding(crate::specs::Awaited::judged_byte))]
     #[inline(always)]
-    fn judged_byte(self, wire_type: WireType, high: u8) -> Result<FirstByte, WireWhy>
-        ensures { result ≡ judged_byte self wire_type high }
+    fn judged_byte(self, kind: WireType, high: u8) -> Result<FirstByte, WireWhy>
+        ensures { result ≡ judged_byte ALL self kind high }
     {
-        if !self.takes(wire_type) {
+        if !self.takes(kind) {
             return Err(WireWhy::BadType);
         }
         if high == LONG_FORM {
-            match self.long_fault(wire_type) {
-                None => Ok(FirstByte::Long(wire_type)),
+            match self.long_fault(kind) {
+                None => Ok(FirstByte::Long(kind)),
                 Some(fault) => Err(fault),
             }
         } else {
-            match self.short_fault(wire_type, high) {
-                None => Ok(FirstByte::Whole(Head {
-                    tag: high,
-                    wire_type,
-                })),
+            match self.short_fault(kind, high) {
+                None => Ok(FirstByte::Whole(Head { tag: high, kind })),
                 Some(fault) => Err(fault),
             }
         }
@@ -167,11 +165,11 @@ impl Spot {
     #[tactic(auto, unfolding(crate::specs::Awaited::first_byte))]
     #[inline(always)]
     pub fn first_byte(self, byte: u8) -> Result<FirstByte, WireWhy>
-        ensures { result ≡ first_byte self byte }
+        ensures { result ≡ first_byte ALL self byte }
     {
         match WireType::from_code(byte % 16) {
             None => Err(WireWhy::BadType),
-            Some(wire_type) => self.judged_byte(wire_type, byte / 16),
+            Some(kind) => self.judged_byte(kind, byte / 16),
         }
     }
 }

@@ -16,11 +16,7 @@ pub fn next_head(here: Level, rest: &[u8]) -> Option<Head>
         return None;
     }
     let (head, _) = peek_head(rest);
-    if head.wire_type.is_end() {
-        None
-    } else {
-        Some(head)
-    }
+    if head.kind.is_end() { None } else { Some(head) }
 }
 
 /// Past what is left at a level, and past its end.
@@ -32,7 +28,7 @@ pub fn past_level(room: u8, level: Level, bytes: &[u8]) -> &[u8]
     let mut rest = bytes;
     while next_head(here, rest).is_some() {
         let (head, behind) = peek_head(rest);
-        rest = past_value(room, head.wire_type, behind);
+        rest = past_value(room, head.kind, behind);
         here = here.less();
     }
     match here {

@@ -21,18 +21,18 @@ pub fn peek_head(bytes: &[u8]) -> (Head, &[u8])
     let [first, rest @ ..] = bytes else {
         unreachable!()
     };
-    let Some(wire_type) = WireType::from_code(*first % 16) else {
+    let Some(kind) = WireType::from_code(*first % 16) else {
         unreachable!()
     };
     let tag = *first / 16;
     if tag < 15 {
-        return (Head { tag, wire_type }, rest);
+        return (Head { tag, kind }, rest);
     }
     let [tag, rest @ ..] = rest else {
         unreachable!()
     };
     let tag = *tag;
-    (Head { tag, wire_type }, rest)
+    (Head { tag, kind }, rest)
 }
 
 /// So many bytes, and those behind them.
@@ -104,11 +104,11 @@ fn peek_i64(bytes: &[u8]) -> (i64, &[u8])
 
 /// A whole number of a type.
 #[tactic(auto, unfolding(crate::specs::Pieces::number_front))]
-pub fn peek_number(wire_type: WireType, bytes: &[u8]) -> (i64, &[u8])
-    requires { IsSome (number_front wire_type bytes.now) }
-    ensures { number_front wire_type bytes.now ≡ Some (result.0, result.1.now) }
+pub fn peek_number(kind: WireType, bytes: &[u8]) -> (i64, &[u8])
+    requires { IsSome (number_front kind bytes.now) }
+    ensures { number_front kind bytes.now ≡ Some (result.0, result.1.now) }
 {
-    match wire_type {
+    match kind {
         WireType::ZeroTag => (0, bytes),
         WireType::Int1 => peek_i8(bytes),
         WireType::Int2 => peek_i16(bytes),
@@ -126,17 +126,17 @@ fn peek_size(bytes: &[u8]) -> (u32, &[u8])
     ensures below { result.0 < 2 ^ 31 }
 {
     let (head, rest) = peek_head(bytes);
-    let (number, rest) = peek_number(head.wire_type, rest);
+    let (number, rest) = peek_number(head.kind, rest);
     (number as u32, rest)
 }
 
 /// The bytes of a string.
 #[tactic(auto, unfolding(crate::specs::Pieces::text_front))]
-pub fn peek_text(wire_type: WireType, bytes: &[u8]) -> (&[u8], &[u8])
-    requires { IsSome (text_front wire_type bytes.now) }
-    ensures { text_front wire_type bytes.now ≡ Some (result.0.now, result.1.now) }
+pub fn peek_text(kind: WireType, bytes: &[u8]) -> (&[u8], &[u8])
+    requires { IsSome (text_front kind bytes.now) }
+    ensures { text_front kind bytes.now ≡ Some (result.0.now, result.1.now) }
 {
-    match wire_type {
+    match kind {
         WireType::String1 => {
             let (size, rest) = peek_u8(bytes);
             peek_bytes(usize::from(size), rest)
@@ -162,27 +162,27 @@ pub fn peek_simple(bytes: &[u8]) -> (&[u8], &[u8])
 
 /// What is open behind the head of a list, a map or a struct, and how many values or pairs it has.
 #[tactic(auto, unfolding(crate::specs::Pieces::entered_front))]
-pub fn enter_level(wire_type: WireType, bytes: &[u8]) -> (Level, u32, &[u8])
-    requires { IsSome (entered_front wire_type bytes.now) }
-    ensures { entered_front wire_type bytes.now ≡ Some (result.0, result.1, result.2.now) }
+pub fn enter_level(kind: WireType, bytes: &[u8]) -> (Level, u32, &[u8])
+    requires { IsSome (entered_front kind bytes.now) }
+    ensures { entered_front kind bytes.now ≡ Some (result.0, result.1, result.2.now) }
 {
-    if wire_type == WireType::StructBegin {
+    if kind == WireType::StructBegin {
         return (Level::Struct, 0, bytes);
     }
     let (size, rest) = peek_size(bytes);
-    if wire_type == WireType::Map {
+    if kind == WireType::Map {
         return (Level::Map { left: 2 * size }, size, rest);
     }
     (Level::List { left: size }, size, rest)
 }
 
 /// Past what stands behind a head of this type.
-pub fn past_value(room: u8, wire_type: WireType, bytes: &[u8]) -> &[u8]
-    requires deep { IsTrue (opens wire_type) → 0 < room }
-    requires is { IsOk (contents_at room wire_type bytes.now) }
-    ensures { contents_at room wire_type bytes.now ≡ Ok result.now }
+pub fn past_value(room: u8, kind: WireType, bytes: &[u8]) -> &[u8]
+    requires deep { IsTrue (opens kind) → 0 < room }
+    requires is { IsOk (contents_at room kind bytes.now) }
+    ensures { contents_at room kind bytes.now ≡ Ok result.now }
 {
-    match past_contents(room, wire_type, bytes) {
+    match past_contents(room, kind, bytes) {
         Ok(rest) => rest,
         Err(_) => unreachable!(),
     }

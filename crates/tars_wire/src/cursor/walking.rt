@@ -1,6 +1,6 @@
 ghost use Rattle.std.specs.Prelude.{◌≡◌, List, [], ◌∷◌, Some, IfSome};
 ghost use Rattle.wire_words.specs.Tree.{WireFields};
-ghost use Rattle.tars_wire.specs.Heads.{MOST_DEPTH, opens};
+ghost use Rattle.tars_wire.specs.Heads.{MAX_DEPTH, opens};
 ghost use Rattle.tars_wire.specs.Spelled.{IsBody, Spelled};
 ghost use Rattle.tars_wire.specs.Left.{Remaining, fields_left, IsLeft, IsNext, NextIs, is_any_type, is_number_type, is_text_type, is_simple_type, head_left, of_next, next_of, number_in, text_in, simple_in, skipped, size_in, entered, left_over, HasEntered};
 
@@ -9,13 +9,13 @@ use super::levels::{next_head, past_level};
 use super::pieces::{enter_level, past_value, peek_head, peek_number, peek_simple, peek_text};
 use crate::head::Head;
 use crate::level::Level;
-use crate::spot::MOST_OPEN;
+use crate::spot::MAX_OPEN;
 
 impl<'a> Cursor<'a> {
     /// A walk over the fields of a body.
     pub(crate) fn over(bytes: &'a [u8]) -> Cursor<'a>
         requires { IsBody bytes.now }
-        ensures { (fields : WireFields) → Spelled MOST_DEPTH bytes.now fields → IsLeft result (fields_left fields ∷ []) }
+        ensures { (fields : WireFields) → Spelled MAX_DEPTH bytes.now fields → IsLeft result (fields_left fields ∷ []) }
     {
         Cursor {
             rest: bytes,
@@ -40,7 +40,7 @@ impl<'a> Cursor<'a> {
         ensures { (left : List Remaining) → IsLeft self.old left → IsLeft self.new (skipped left) }
     {
         let (head, behind) = peek_head(self.rest);
-        self.rest = past_value(MOST_OPEN - self.depth as u8, head.wire_type, behind);
+        self.rest = past_value(MAX_OPEN - self.depth as u8, head.kind, behind);
         self.here = self.here.less();
     }
 
@@ -51,7 +51,7 @@ impl<'a> Cursor<'a> {
         ensures left { (left : List Remaining) → IsLeft self.old left → IsLeft self.new (skipped left) }
     {
         let (head, behind) = peek_head(self.rest);
-        let (number, rest) = peek_number(head.wire_type, behind);
+        let (number, rest) = peek_number(head.kind, behind);
         self.rest = rest;
         self.here = self.here.less();
         number
@@ -64,7 +64,7 @@ impl<'a> Cursor<'a> {
         ensures left { (left : List Remaining) → IsLeft self.old left → IsLeft self.new (skipped left) }
     {
         let (head, behind) = peek_head(self.rest);
-        let (text, rest) = peek_text(head.wire_type, behind);
+        let (text, rest) = peek_text(head.kind, behind);
         self.rest = rest;
         self.here = self.here.less();
         text
@@ -92,7 +92,7 @@ impl<'a> Cursor<'a> {
         ensures inside { HasEntered self.new }
     {
         let (head, behind) = peek_head(self.rest);
-        let (inside, size, rest) = enter_level(head.wire_type, behind);
+        let (inside, size, rest) = enter_level(head.kind, behind);
         self.outer[self.depth] = self.here.less();
         self.depth += 1;
         self.here = inside;
@@ -105,7 +105,7 @@ impl<'a> Cursor<'a> {
         requires { HasEntered self.old }
         ensures { (left : List Remaining) → IsLeft self.old left → IsLeft self.new (left_over left) }
     {
-        self.rest = past_level(MOST_OPEN - self.depth as u8, self.here, self.rest);
+        self.rest = past_level(MAX_OPEN - self.depth as u8, self.here, self.rest);
         self.depth -= 1;
         self.here = self.outer[self.depth];
     }

@@ -1,4 +1,4 @@
-ghost use Rattle.std.specs.Prelude.{◌≡◌, ◌<◌, ◌^◌, length, List, [], OnOk, IfOk, IfErr, IsOk};
+ghost use Rattle.std.specs.Prelude.{◌≡◌, ◌<◌, ◌^◌, length, List, [], OnOk, IfOk, IfErr, IsOk, Err};
 ghost use Rattle.tars_wire.specs.Spelled.{IsBody};
 ghost use Rattle.tars_wire.specs.Faults.{IsFault};
 ghost use Rattle.tars_wire.specs.Reading.{Gives, body_at};
@@ -6,7 +6,7 @@ ghost use Rattle.tars_wire.specs.Reading.{Gives, body_at};
 use super::contents::past_contents;
 use super::heads::read_head;
 use crate::checked::Checked;
-use crate::spot::{MOST_OPEN, Spot};
+use crate::spot::{MAX_OPEN, Spot};
 use crate::stop::Stop;
 use crate::wire_fault::WireFault;
 
@@ -18,7 +18,7 @@ fn past_body(bytes: &[u8]) -> Result<(), Stop>
     let mut from = 0;
     while !rest.is_empty() {
         let (head, behind) = read_head(Spot::Body { from }, rest)?;
-        rest = past_contents(MOST_OPEN, head.wire_type, behind)?;
+        rest = past_contents(MAX_OPEN, head.kind, behind)?;
         from = u16::from(head.tag) + 1;
     }
     Ok(())
@@ -33,8 +33,10 @@ pub fn scan(bytes: &[u8]) -> Result<Checked<'_>, WireFault>
     ensures accepted { IfOk result (λ checked. (checked ≡ bytes.now) × IsBody bytes.now) }
     // Every body is accepted.
     ensures only { IsBody bytes.now → IsOk result }
-    // The fault is at the end of the longest front that some body goes on from.
+    // What is refused has this fault: it is at the end of the longest prefix that some body goes on from.
     ensures fault { IfErr result (λ fault. IsFault bytes.now fault) }
+    // Bytes that have a fault are refused, with that one.
+    ensures refused { (fault : WireFault) → IsFault bytes.now fault → result ≡ Err fault }
 {
     match past_body(bytes) {
         Ok(()) => Ok(Checked::new(bytes)),

@@ -42,11 +42,11 @@ fn past_simple_list(bytes: &[u8]) -> Result<&[u8], Stop>
 /// inside one another.
 #[cycle(contents)]
 #[tactic(auto, unfolding(crate::specs::Reading::contents_at, crate::specs::Reading::sized_at))]
-pub fn past_contents(room: u8, wire_type: WireType, bytes: &[u8]) -> Result<&[u8], Stop>
-    requires { IsTrue (opens wire_type) → 0 < room }
-    ensures { Gives (λ x. x.now) result (contents_at room wire_type bytes.now) }
+pub fn past_contents(room: u8, kind: WireType, bytes: &[u8]) -> Result<&[u8], Stop>
+    requires { IsTrue (opens kind) → 0 < room }
+    ensures { Gives (λ x. x.now) result (contents_at room kind bytes.now) }
 {
-    match wire_type {
+    match kind {
         WireType::Int1 => past(1, bytes),
         WireType::Int2 => past(2, bytes),
         WireType::Int4 => past(4, bytes),
@@ -77,7 +77,7 @@ fn past_item(tag: u8, room: u8, bytes: &[u8]) -> Result<&[u8], Stop>
     ensures { Gives (λ x. x.now) result (item_at tag room bytes.now) }
 {
     let (head, rest) = read_head(Spot::Item { tag, room }, bytes)?;
-    past_contents(room, head.wire_type, rest)
+    past_contents(room, head.kind, rest)
 }
 
 /// Past so many elements of a list.
@@ -123,10 +123,10 @@ fn past_fields(room: u8, bytes: &[u8]) -> Result<&[u8], Stop>
     let mut from = 0;
     loop {
         let (head, behind) = read_head(Spot::Struct { from, room }, rest)?;
-        if head.wire_type.is_end() {
+        if head.kind.is_end() {
             return Ok(behind);
         }
-        rest = past_contents(room, head.wire_type, behind)?;
+        rest = past_contents(room, head.kind, behind)?;
         from = u16::from(head.tag) + 1;
     }
 }

@@ -8,16 +8,16 @@ use crate::wire_type::WireType;
 
 /// The tag of a head in a byte of its own.
 #[tactic(auto, unfolding(crate::specs::Reading::tag_at))]
-fn read_tag(place: Spot, wire_type: WireType, bytes: &[u8]) -> Result<(Head, &[u8]), Stop>
-    ensures read { Gives (λ x. (x.0, x.1.now)) result (tag_at place wire_type bytes.now) }
+fn read_tag(place: Spot, kind: WireType, bytes: &[u8]) -> Result<(Head, &[u8]), Stop>
+    ensures read { Gives (λ x. (x.0, x.1.now)) result (tag_at place kind bytes.now) }
     ensures tag { IfOk result (λ x. x.0.tag < 256) }
 {
     let [tag, rest @ ..] = bytes else {
         return Err(SHORT);
     };
     let tag = *tag;
-    match place.tag_fault(wire_type, tag) {
-        None => Ok((Head { tag, wire_type }, rest)),
+    match place.tag_fault(kind, tag) {
+        None => Ok((Head { tag, kind }, rest)),
         Some(why) => Err(Stop {
             left: bytes.len(),
             why,
@@ -37,7 +37,7 @@ pub fn read_head(place: Spot, bytes: &[u8]) -> Result<(Head, &[u8]), Stop>
     };
     match place.first_byte(*first) {
         Ok(FirstByte::Whole(head)) => Ok((head, rest)),
-        Ok(FirstByte::Long(wire_type)) => read_tag(place, wire_type, rest),
+        Ok(FirstByte::Long(kind)) => read_tag(place, kind, rest),
         Err(why) => Err(Stop {
             left: bytes.len(),
             why,

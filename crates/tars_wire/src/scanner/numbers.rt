@@ -70,10 +70,10 @@ fn not_negative(bytes: &[u8]) -> Result<&[u8], Stop>
 
 /// The number of a size whose head is read.
 #[tactic(auto, unfolding(crate::specs::Reading::size_number))]
-fn read_size_number(wire_type: WireType, bytes: &[u8]) -> Result<(usize, &[u8]), Stop>
-    ensures { Gives (λ x. (x.0, x.1.now)) result (size_number wire_type bytes.now) }
+fn read_size_number(kind: WireType, bytes: &[u8]) -> Result<(usize, &[u8]), Stop>
+    ensures { Gives (λ x. (x.0, x.1.now)) result (size_number kind bytes.now) }
 {
-    match wire_type {
+    match kind {
         WireType::Int1 => read_u8(not_negative(bytes)?),
         WireType::Int2 => read_u16(not_negative(bytes)?),
         WireType::Int4 => read_u32(not_negative(bytes)?),
@@ -87,5 +87,5 @@ pub fn read_size(bytes: &[u8]) -> Result<(usize, &[u8]), Stop>
     ensures { Gives (λ x. (x.0, x.1.now)) result (size_at bytes.now) }
 {
     let (head, rest) = read_head(Spot::Size, bytes)?;
-    read_size_number(head.wire_type, rest)
+    read_size_number(head.kind, rest)
 }

@@ -1,5 +1,5 @@
 use Rattle.std.proofs.Common.{◌-◌, ◌∷◌, arith}
-use Rattle.tars_wire.specs.Heads.{MOST_DEPTH}
+use Rattle.tars_wire.specs.Heads.{MAX_DEPTH}
 use Rattle.tars_wire.specs.Left.{entered, Left, levels_around}
 use Rattle.tars_wire.proofs.Turns.{head_needs, seen}
 use Rattle.tars_wire.proofs.Entering.{enter_needs, enter_room, enters, sizes, entered_at, enters_two}
@@ -7,21 +7,21 @@ use Rattle.tars_wire.proofs.cursor.Cursor.enter.Goals as goal
 
 pub peek_head-requires : goal.peek_head-requires
 peek_head-requires c =
-    let room = MOST_DEPTH - c.self.inside.depth in
+    let room = MAX_DEPTH - c.self.inside.depth in
     let around = levels_around c.self.inside.outer c.self.inside.depth in
     let spelled : Left room (c.self.inside.here ∷ around) c.requires.next.left c.self.inside.rest.now = seen _ _ c.requires.next.left c.self.view_is c.requires.next.is_left in
     head_needs room c.self.inside.here around c.requires.next.left c.self.inside.rest.now c.requires.head spelled c.requires.next.is_next
 
 pub enter_level-inside-requires : goal.enter_level-inside-requires
 enter_level-inside-requires c =
-    let room = MOST_DEPTH - c.self.inside.depth in
+    let room = MAX_DEPTH - c.self.inside.depth in
     let around = levels_around c.self.inside.outer c.self.inside.depth in
     let spelled : Left room (c.self.inside.here ∷ around) c.requires.next.left c.self.inside.rest.now = seen _ _ c.requires.next.left c.self.view_is c.requires.next.is_left in
     enter_needs room c.self.inside.here around c.requires.next.left c.self.inside.rest.now c.requires.head spelled c.requires.next.is_next c.requires.is_sort c.peek_head.result.0 c.peek_head.result.1.now c.peek_head.ensures
 
 pub bounds-self-inside-self-inside : goal.bounds-self-inside-self-inside
 bounds-self-inside-self-inside c =
-    let room = MOST_DEPTH - c.self.inside.depth in
+    let room = MAX_DEPTH - c.self.inside.depth in
     let around = levels_around c.self.inside.outer c.self.inside.depth in
     let spelled : Left room (c.self.inside.here ∷ around) c.requires.next.left c.self.inside.rest.now = seen _ _ c.requires.next.left c.self.view_is c.requires.next.is_left in
     let some = enter_room room c.self.inside.here around c.requires.next.left c.self.inside.rest.now c.requires.head spelled c.requires.next.is_next c.requires.is_sort c.peek_head.result.0 c.peek_head.result.1.now c.peek_head.ensures in
@@ -29,7 +29,7 @@ bounds-self-inside-self-inside c =
 
 pub invariant_of-self : goal.invariant_of-self
 invariant_of-self c =
-    let room = MOST_DEPTH - c.self.inside.depth in
+    let room = MAX_DEPTH - c.self.inside.depth in
     let around = levels_around c.self.inside.outer c.self.inside.depth in
     let spelled : Left room (c.self.inside.here ∷ around) c.requires.next.left c.self.inside.rest.now = seen _ _ c.requires.next.left c.self.view_is c.requires.next.is_left in
     let some = enter_room room c.self.inside.here around c.requires.next.left c.self.inside.rest.now c.requires.head spelled c.requires.next.is_next c.requires.is_sort c.peek_head.result.0 c.peek_head.result.1.now c.peek_head.ensures in
@@ -41,14 +41,14 @@ invariant_of-self c =
 
 pub returns-clause-size : goal.returns-clause-size
 returns-clause-size c = λ other is_left.
-    let room = MOST_DEPTH - c.self.inside.depth in
+    let room = MAX_DEPTH - c.self.inside.depth in
     let around = levels_around c.self.inside.outer c.self.inside.depth in
     let spelled : Left room (c.self.inside.here ∷ around) c.requires.next.left c.self.inside.rest.now = seen _ _ c.requires.next.left c.self.view_is c.requires.next.is_left in
     sizes room c.self.inside.here around c.requires.next.left c.self.inside.rest.now c.requires.head spelled c.requires.next.is_next c.requires.is_sort c.peek_head.result.0 c.peek_head.result.1.now c.peek_head.ensures c.enter_level-inside.result.0 c.enter_level-inside.result.1 c.enter_level-inside.result.2.now c.enter_level-inside.ensures other (seen _ _ other c.self.view_is is_left)
 
 pub returns-clause-left : goal.returns-clause-left
 returns-clause-left c = λ other is_left.
-    let room = MOST_DEPTH - c.self.inside.depth in
+    let room = MAX_DEPTH - c.self.inside.depth in
     let around = levels_around c.self.inside.outer c.self.inside.depth in
     let spelled : Left room (c.self.inside.here ∷ around) c.requires.next.left c.self.inside.rest.now = seen _ _ c.requires.next.left c.self.view_is c.requires.next.is_left in
     let some = enter_room room c.self.inside.here around c.requires.next.left c.self.inside.rest.now c.requires.head spelled c.requires.next.is_next c.requires.is_sort c.peek_head.result.0 c.peek_head.result.1.now c.peek_head.ensures in
@@ -56,7 +56,7 @@ returns-clause-left c = λ other is_left.
 
 pub returns-clause-inside : goal.returns-clause-inside
 returns-clause-inside c =
-    let room = MOST_DEPTH - c.self.inside.depth in
+    let room = MAX_DEPTH - c.self.inside.depth in
     let around = levels_around c.self.inside.outer c.self.inside.depth in
     let spelled : Left room (c.self.inside.here ∷ around) c.requires.next.left c.self.inside.rest.now = seen _ _ c.requires.next.left c.self.view_is c.requires.next.is_left in
     record {

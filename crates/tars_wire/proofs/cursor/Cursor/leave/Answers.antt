@@ -1,5 +1,5 @@
 use Rattle.std.proofs.Common.{◌-◌, ◌∷◌, arith}
-use Rattle.tars_wire.specs.Heads.{MOST_DEPTH}
+use Rattle.tars_wire.specs.Heads.{MAX_DEPTH}
 use Rattle.tars_wire.specs.Left.{left_over, Left, levels_around}
 use Rattle.tars_wire.proofs.Turns.{seen}
 use Rattle.tars_wire.proofs.Entering.{some_around, outer_left, around_length, left_at, two_left}
@@ -7,7 +7,7 @@ use Rattle.tars_wire.proofs.cursor.Cursor.leave.Goals as goal
 
 pub invariant_of-self : goal.invariant_of-self
 invariant_of-self c =
-    let room = MOST_DEPTH - c.self.inside.depth in
+    let room = MAX_DEPTH - c.self.inside.depth in
     let around = levels_around c.self.inside.outer c.self.inside.depth in
     let spelled : Left room (c.self.inside.here ∷ around) c.requires.left c.self.inside.rest.now = seen _ _ c.requires.left c.self.view_is c.requires.is_left in
     let some = some_around room c.self.inside.here around c.requires.left c.self.inside.rest.now spelled c.requires.two in
@@ -20,7 +20,7 @@ invariant_of-self c =
 
 pub returns : goal.returns
 returns c = λ other is_left.
-    let room = MOST_DEPTH - c.self.inside.depth in
+    let room = MAX_DEPTH - c.self.inside.depth in
     let around = levels_around c.self.inside.outer c.self.inside.depth in
     let spelled : Left room (c.self.inside.here ∷ around) c.requires.left c.self.inside.rest.now = seen _ _ c.requires.left c.self.view_is c.requires.is_left in
     let spelled_other = seen _ _ other c.self.view_is is_left in

@@ -1,5 +1,5 @@
 use Rattle.std.proofs.Common.{◌-◌, ◌∷◌}
-use Rattle.tars_wire.specs.Heads.{MOST_DEPTH}
+use Rattle.tars_wire.specs.Heads.{MAX_DEPTH}
 use Rattle.tars_wire.specs.Left.{skipped, Left, levels_around, simple_in, is_simple_type}
 use Rattle.tars_wire.specs.Pieces.{simple_front}
 use Rattle.tars_wire.proofs.Turns.{head_needs, needs, leaves, tells, seen, simple_of_type, simple_law}
@@ -7,21 +7,21 @@ use Rattle.tars_wire.proofs.cursor.Cursor.simple.Goals as goal
 
 pub peek_head-requires : goal.peek_head-requires
 peek_head-requires c =
-    let room = MOST_DEPTH - c.self.inside.depth in
+    let room = MAX_DEPTH - c.self.inside.depth in
     let around = levels_around c.self.inside.outer c.self.inside.depth in
     let spelled : Left room (c.self.inside.here ∷ around) c.requires.next.left c.self.inside.rest.now = seen _ _ c.requires.next.left c.self.view_is c.requires.next.is_left in
     head_needs room c.self.inside.here around c.requires.next.left c.self.inside.rest.now c.requires.head spelled c.requires.next.is_next
 
 pub peek_simple-requires : goal.peek_simple-requires
 peek_simple-requires c =
-    let room = MOST_DEPTH - c.self.inside.depth in
+    let room = MAX_DEPTH - c.self.inside.depth in
     let around = levels_around c.self.inside.outer c.self.inside.depth in
     let spelled : Left room (c.self.inside.here ∷ around) c.requires.next.left c.self.inside.rest.now = seen _ _ c.requires.next.left c.self.view_is c.requires.next.is_left in
     needs (λ type w. simple_front w) simple_in is_simple_type simple_of_type simple_law room c.self.inside.here around c.requires.next.left c.self.inside.rest.now c.requires.head spelled c.requires.next.is_next c.requires.is_sort c.peek_head.result.0 c.peek_head.result.1.now c.peek_head.ensures
 
 pub invariant_of-self : goal.invariant_of-self
 invariant_of-self c =
-    let room = MOST_DEPTH - c.self.inside.depth in
+    let room = MAX_DEPTH - c.self.inside.depth in
     let around = levels_around c.self.inside.outer c.self.inside.depth in
     let spelled : Left room (c.self.inside.here ∷ around) c.requires.next.left c.self.inside.rest.now = seen _ _ c.requires.next.left c.self.view_is c.requires.next.is_left in
     let after : Left room (c.less-self-inside.result ∷ around) (skipped c.requires.next.left) c.peek_simple.result.1.now = rw c.less-self-inside.ensures (leaves (λ type w. simple_front w) simple_in is_simple_type simple_of_type simple_law room c.self.inside.here around c.requires.next.left c.self.inside.rest.now c.requires.head spelled c.requires.next.is_next c.requires.is_sort c.peek_head.result.0 c.peek_head.result.1.now c.peek_head.ensures c.peek_simple.result.0.now c.peek_simple.result.1.now c.peek_simple.ensures c.requires.next.left spelled) in
@@ -29,14 +29,14 @@ invariant_of-self c =
 
 pub returns-clause-bytes : goal.returns-clause-bytes
 returns-clause-bytes c = λ other is_left.
-    let room = MOST_DEPTH - c.self.inside.depth in
+    let room = MAX_DEPTH - c.self.inside.depth in
     let around = levels_around c.self.inside.outer c.self.inside.depth in
     let spelled : Left room (c.self.inside.here ∷ around) c.requires.next.left c.self.inside.rest.now = seen _ _ c.requires.next.left c.self.view_is c.requires.next.is_left in
     tells (λ type w. simple_front w) simple_in is_simple_type simple_of_type simple_law room c.self.inside.here around c.requires.next.left c.self.inside.rest.now c.requires.head spelled c.requires.next.is_next c.requires.is_sort c.peek_head.result.0 c.peek_head.result.1.now c.peek_head.ensures c.peek_simple.result.0.now c.peek_simple.result.1.now c.peek_simple.ensures other (seen _ _ other c.self.view_is is_left)
 
 pub returns-clause-left : goal.returns-clause-left
 returns-clause-left c = λ other is_left.
-    let room = MOST_DEPTH - c.self.inside.depth in
+    let room = MAX_DEPTH - c.self.inside.depth in
     let around = levels_around c.self.inside.outer c.self.inside.depth in
     let spelled : Left room (c.self.inside.here ∷ around) c.requires.next.left c.self.inside.rest.now = seen _ _ c.requires.next.left c.self.view_is c.requires.next.is_left in
     rw c.less-self-inside.ensures (leaves (λ type w. simple_front w) simple_in is_simple_type simple_of_type simple_law room c.self.inside.here around c.requires.next.left c.self.inside.rest.now c.requires.head spelled c.requires.next.is_next c.requires.is_sort c.peek_head.result.0 c.peek_head.result.1.now c.peek_head.ensures c.peek_simple.result.0.now c.peek_simple.result.1.now c.peek_simple.ensures other (seen _ _ other c.self.view_is is_left))

@@ -1,5 +1,5 @@
 use Rattle.std.proofs.Common.{◌-◌, ◌∷◌}
-use Rattle.tars_wire.specs.Heads.{MOST_DEPTH}
+use Rattle.tars_wire.specs.Heads.{MAX_DEPTH}
 use Rattle.tars_wire.specs.Left.{skipped, Left, levels_around, text_in, is_text_type}
 use Rattle.tars_wire.specs.Pieces.{text_front}
 use Rattle.tars_wire.proofs.Turns.{head_needs, needs, leaves, tells, seen, text_of_type, text_law}
@@ -7,21 +7,21 @@ use Rattle.tars_wire.proofs.cursor.Cursor.text.Goals as goal
 
 pub peek_head-requires : goal.peek_head-requires
 peek_head-requires c =
-    let room = MOST_DEPTH - c.self.inside.depth in
+    let room = MAX_DEPTH - c.self.inside.depth in
     let around = levels_around c.self.inside.outer c.self.inside.depth in
     let spelled : Left room (c.self.inside.here ∷ around) c.requires.next.left c.self.inside.rest.now = seen _ _ c.requires.next.left c.self.view_is c.requires.next.is_left in
     head_needs room c.self.inside.here around c.requires.next.left c.self.inside.rest.now c.requires.head spelled c.requires.next.is_next
 
 pub peek_text-requires : goal.peek_text-requires
 peek_text-requires c =
-    let room = MOST_DEPTH - c.self.inside.depth in
+    let room = MAX_DEPTH - c.self.inside.depth in
     let around = levels_around c.self.inside.outer c.self.inside.depth in
     let spelled : Left room (c.self.inside.here ∷ around) c.requires.next.left c.self.inside.rest.now = seen _ _ c.requires.next.left c.self.view_is c.requires.next.is_left in
     needs text_front text_in is_text_type text_of_type text_law room c.self.inside.here around c.requires.next.left c.self.inside.rest.now c.requires.head spelled c.requires.next.is_next c.requires.is_sort c.peek_head.result.0 c.peek_head.result.1.now c.peek_head.ensures
 
 pub invariant_of-self : goal.invariant_of-self
 invariant_of-self c =
-    let room = MOST_DEPTH - c.self.inside.depth in
+    let room = MAX_DEPTH - c.self.inside.depth in
     let around = levels_around c.self.inside.outer c.self.inside.depth in
     let spelled : Left room (c.self.inside.here ∷ around) c.requires.next.left c.self.inside.rest.now = seen _ _ c.requires.next.left c.self.view_is c.requires.next.is_left in
     let after : Left room (c.less-self-inside.result ∷ around) (skipped c.requires.next.left) c.peek_text.result.1.now = rw c.less-self-inside.ensures (leaves text_front text_in is_text_type text_of_type text_law room c.self.inside.here around c.requires.next.left c.self.inside.rest.now c.requires.head spelled c.requires.next.is_next c.requires.is_sort c.peek_head.result.0 c.peek_head.result.1.now c.peek_head.ensures c.peek_text.result.0.now c.peek_text.result.1.now c.peek_text.ensures c.requires.next.left spelled) in
@@ -29,14 +29,14 @@ invariant_of-self c =
 
 pub returns-clause-text : goal.returns-clause-text
 returns-clause-text c = λ other is_left.
-    let room = MOST_DEPTH - c.self.inside.depth in
+    let room = MAX_DEPTH - c.self.inside.depth in
     let around = levels_around c.self.inside.outer c.self.inside.depth in
     let spelled : Left room (c.self.inside.here ∷ around) c.requires.next.left c.self.inside.rest.now = seen _ _ c.requires.next.left c.self.view_is c.requires.next.is_left in
     tells text_front text_in is_text_type text_of_type text_law room c.self.inside.here around c.requires.next.left c.self.inside.rest.now c.requires.head spelled c.requires.next.is_next c.requires.is_sort c.peek_head.result.0 c.peek_head.result.1.now c.peek_head.ensures c.peek_text.result.0.now c.peek_text.result.1.now c.peek_text.ensures other (seen _ _ other c.self.view_is is_left)
 
 pub returns-clause-left : goal.returns-clause-left
 returns-clause-left c = λ other is_left.
-    let room = MOST_DEPTH - c.self.inside.depth in
+    let room = MAX_DEPTH - c.self.inside.depth in
     let around = levels_around c.self.inside.outer c.self.inside.depth in
     let spelled : Left room (c.self.inside.here ∷ around) c.requires.next.left c.self.inside.rest.now = seen _ _ c.requires.next.left c.self.view_is c.requires.next.is_left in
     rw c.less-self-inside.ensures (leaves text_front text_in is_text_type text_of_type text_law room c.self.inside.here around c.requires.next.left c.self.inside.rest.now c.requires.head spelled c.requires.next.is_next c.requires.is_sort c.peek_head.result.0 c.peek_head.result.1.now c.peek_head.ensures c.peek_text.result.0.now c.peek_text.result.1.now c.peek_text.ensures other (seen _ _ other c.self.view_is is_left))

@@ -17,11 +17,11 @@ peek_head-requires c =
 pub returns-then-is_end : goal.returns-then-is_end
 returns-then-is_end c =
     let over : is_over c.args.here c.args.rest.now ≡ false = cc in
-    let ends : is_end c.peek_head.result.0.wire_type ≡ true = cc in
+    let ends : is_end c.peek_head.result.0.kind ≡ true = cc in
     λ room inner after x. end_is_next room c.args.here inner c.args.rest.now after c.peek_head.result.0 c.peek_head.result.1.now over c.peek_head.ensures ends x
 
 pub returns-else-is_end : goal.returns-else-is_end
 returns-else-is_end c =
     let over : is_over c.args.here c.args.rest.now ≡ false = cc in
-    let ends : is_end c.peek_head.result.0.wire_type ≡ false = cc in
+    let ends : is_end c.peek_head.result.0.kind ≡ false = cc in
     λ room inner after x. head_is_next room c.args.here inner c.args.rest.now after c.peek_head.result.0 c.peek_head.result.1.now over c.peek_head.ensures ends x

@@ -1,7 +1,7 @@
 use Rattle.std.proofs.Common.{◌<◌, length, arith}
 use Rattle.std.proofs.lemmas.Result.{err_from_is_err_and}
 use Rattle.tars_wire.specs.declared.spot.Spot.TheVariants as spot
-use Rattle.tars_wire.specs.Heads.{MOST_DEPTH}
+use Rattle.tars_wire.specs.Heads.{MAX_DEPTH}
 use Rattle.tars_wire.specs.Reading.{body_at}
 use Rattle.tars_wire.proofs.ReadingLaws.{head_shorter, contents_not_longer}
 use Rattle.tars_wire.proofs.ScanLoops.{body_done, body_head_fails, body_contents_fail, body_on}
@@ -22,7 +22,7 @@ returns-in_err-rest c =
 pub loop-rest-smaller : goal.loop-rest-smaller
 loop-rest-smaller c =
     let a = head_shorter (spot.Body c.loop-rest.from) c.loop-rest.rest.now c.in_ok-head.behind.now c.in_ok-head.head c.in_ok-head.ensures.read in
-    let b = contents_not_longer MOST_DEPTH c.in_ok-head.head.wire_type c.in_ok-head.behind.now c.in_ok-rest.rest.now c.in_ok-rest.ensures in
+    let b = contents_not_longer MAX_DEPTH c.in_ok-head.head.kind c.in_ok-head.behind.now c.in_ok-rest.rest.now c.in_ok-rest.ensures in
     omega arith
 
 pub loop-rest-preserved : goal.loop-rest-preserved

@@ -1,5 +1,5 @@
-use Rattle.std.proofs.Common.{◌<◌, ℕ, get_or, [], arith}
-use Rattle.tars_wire.proofs.Judging.{taken_is_body, body_is_taken, stop_is_fault, left_within}
+use Rattle.std.proofs.Common.{◌<◌, ℕ, get_or, [], Err, ap, arith}
+use Rattle.tars_wire.proofs.Judging.{taken_is_body, stop_is_one, left_within}
 use Rattle.tars_wire.proofs.scanner.body.scan.Goals as goal
 
 pub new-requires : goal.new-requires
@@ -13,9 +13,14 @@ overflow_sub-result c = left_within c.args.bytes.now c.in-Err.stop c.in-Err.ensu
 pub returns-in-Err-clause-only : goal.returns-in-Err-clause-only
 returns-in-Err-clause-only c =
     let fits : (i : ℕ) → get_or c.args.bytes.now i 0 < 256 = λ i. omega (arith, c.type_inv.bytes i) in
-    λ b. absurd (body_is_taken c.args.bytes.now fits c.in-Err.stop c.in-Err.ensures b)
+    λ b. absurd ((stop_is_one c.args.bytes.now fits c.in-Err.stop c.in-Err.ensures).is_fault.no_body b)
 
 pub returns-in-Err-clause-fault : goal.returns-in-Err-clause-fault
 returns-in-Err-clause-fault c =
     let fits : (i : ℕ) → get_or c.args.bytes.now i 0 < 256 = λ i. omega (arith, c.type_inv.bytes i) in
-    stop_is_fault c.args.bytes.now fits c.in-Err.stop c.in-Err.ensures
+    (stop_is_one c.args.bytes.now fits c.in-Err.stop c.in-Err.ensures).is_fault
+
+pub returns-in-Err-clause-refused : goal.returns-in-Err-clause-refused
+returns-in-Err-clause-refused c =
+    let fits : (i : ℕ) → get_or c.args.bytes.now i 0 < 256 = λ i. omega (arith, c.type_inv.bytes i) in
+    λ fault is_fault. ap Err ((stop_is_one c.args.bytes.now fits c.in-Err.stop c.in-Err.ensures).only fault is_fault)

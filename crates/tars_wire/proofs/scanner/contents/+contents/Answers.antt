@@ -16,7 +16,7 @@ past_fields-returns-in_err-head t c =
 
 pub past_fields-returns-then-is_end : goal.past_fields-returns-then-is_end
 past_fields-returns-then-is_end t c =
-    let ends : is_end c.in_ok-head.head.wire_type ≡ true = cc in
+    let ends : is_end c.in_ok-head.head.kind ≡ true = cc in
     struct_ends c.loop-head.from c.args.room c.loop-head.rest.now (fields_at 0 c.args.room c.args.bytes.now) c.loop-head.invariant c.in_ok-head.head c.in_ok-head.behind.now c.in_ok-head.ensures.read ends
 
 pub past_fields-past_contents-requires : goal.past_fields-past_contents-requires
@@ -25,19 +25,19 @@ past_fields-past_contents-requires t c =
 
 pub past_fields-returns-in_err-rest : goal.past_fields-returns-in_err-rest
 past_fields-returns-in_err-rest t c =
-    let ends : is_end c.in_ok-head.head.wire_type ≡ false = cc in
+    let ends : is_end c.in_ok-head.head.kind ≡ false = cc in
     let p = err_from_is_err_and c.from_residual-in_err-rest.result c.from_residual-in_err-rest.ensures.1 in
     rw (p.1, p.2) (contents_fail c.loop-head.from c.args.room c.loop-head.rest.now (fields_at 0 c.args.room c.args.bytes.now) c.loop-head.invariant c.in_ok-head.head c.in_ok-head.behind.now c.in_err-rest.field-0.0 c.in_ok-head.ensures.read ends c.in_err-rest.ensures)
 
 pub past_fields-loop-head-smaller : goal.past_fields-loop-head-smaller
 past_fields-loop-head-smaller t c =
     let a = head_shorter (spot.Struct c.loop-head.from c.args.room) c.loop-head.rest.now c.in_ok-head.behind.now c.in_ok-head.head c.in_ok-head.ensures.read in
-    let b = contents_not_longer c.args.room c.in_ok-head.head.wire_type c.in_ok-head.behind.now c.in_ok-rest.rest.now c.in_ok-rest.ensures in
+    let b = contents_not_longer c.args.room c.in_ok-head.head.kind c.in_ok-head.behind.now c.in_ok-rest.rest.now c.in_ok-rest.ensures in
     omega arith
 
 pub past_fields-loop-head-preserved : goal.past_fields-loop-head-preserved
 past_fields-loop-head-preserved t c =
-    let ends : is_end c.in_ok-head.head.wire_type ≡ false = cc in
+    let ends : is_end c.in_ok-head.head.kind ≡ false = cc in
     rw c.from-from.ensures (fields_on c.loop-head.from c.args.room c.loop-head.rest.now (fields_at 0 c.args.room c.args.bytes.now) c.loop-head.invariant c.in_ok-head.head c.in_ok-head.behind.now c.in_ok-rest.rest.now c.in_ok-head.ensures.read ends c.in_ok-rest.ensures)
 
 pub past_pairs-returns-in_err-rest : goal.past_pairs-returns-in_err-rest
