@@ -8,7 +8,7 @@ ghost use Rattle.wire_words.specs.Tree.{WireValue, WireFields};
 ghost use Rattle.tars_wire.specs.Spelled.{IsBody, Spelled, SpelledField};
 ghost use Rattle.tars_wire.specs.Left.{Standing, Remaining, IsLeft};
 
-use crate::spot::{LAST_TAG, LONG_FORM, MAX_OPEN};
+use crate::head_context::{LAST_TAG, LONG_FORM, MAX_OPEN};
 use crate::wire_fault::WireWhy;
 
 /// The limits, as numbers.
@@ -19,13 +19,13 @@ pub fn limits()
 {}
 
 /// Bytes spell one list of fields at most.
-#[tactic(auto, using(crate::proofs::Extends::one_reading_law))]
+#[tactic(auto, using(crate::proofs::Grammar::Extends::one_reading_law))]
 pub fn one_reading()
     ensures { (room other_room : ℕ) (bytes : List ℕ) (fields others : WireFields) → Spelled room bytes fields → Spelled other_room bytes others → fields ≡ others }
 {}
 
 /// No spelling of a field goes on from a spelling of a field, of whatever tag and value.
-#[tactic(auto, using(crate::proofs::Extends::no_prefix_law))]
+#[tactic(auto, using(crate::proofs::Grammar::Extends::no_prefix_law))]
 pub fn no_spelling_begins_another()
     ensures { (room other_room tag other_tag : ℕ) (value other : WireValue) (bytes more : List ℕ) → SpelledField room tag value bytes → SpelledField other_room other_tag other (bytes ++ more) → more ≡ [] }
 {}

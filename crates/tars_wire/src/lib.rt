@@ -7,10 +7,10 @@
 mod checked;
 mod cursor;
 mod head;
+mod head_context;
 mod laws;
 mod level;
 mod scanner;
-mod spot;
 mod stop;
 mod wire_fault;
 mod wire_type;

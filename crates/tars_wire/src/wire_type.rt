@@ -1,6 +1,6 @@
 ghost use Rattle.std.specs.Prelude.{◌≡◌, ◌<◌};
 ghost use Rattle.tars_wire.specs.Heads.{code_of, type_of, opens, is_end};
-ghost use Rattle.tars_wire.specs.Awaited.{is_size};
+ghost use Rattle.tars_wire.specs.MachineSteps.{is_size};
 
 /// How the contents of a field are spelled: the low four bits of its head (docs/PROTOCOL.md,
 /// "Contents").

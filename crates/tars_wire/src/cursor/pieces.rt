@@ -3,8 +3,8 @@
 ghost use Rattle.std.specs.Prelude.{◌≡◌, ◌<◌, ◌^◌, IsTrue, IsSome, IsOk, length};
 ghost use Rattle.tars_wire.specs.Heads.{opens};
 ghost use Rattle.std.specs.Int.{w8, w16, w32, w64};
-ghost use Rattle.tars_wire.specs.Reading.{contents_at};
-ghost use Rattle.tars_wire.specs.Pieces.{head_front, bytes_front, unsigned_front, signed_front, number_front, size_front, text_front, simple_front, entered_front};
+ghost use Rattle.tars_wire.specs.ScanSteps.{contents_at};
+ghost use Rattle.tars_wire.specs.PrefixSteps.{head_front, bytes_front, unsigned_front, signed_front, number_front, size_front, text_front, simple_front, entered_front};
 
 use crate::head::Head;
 use crate::level::Level;
@@ -13,7 +13,7 @@ use crate::wire_type::WireType;
 use byteorder::{BigEndian, ByteOrder};
 
 /// A head in either form.
-#[tactic(auto, unfolding(crate::specs::Pieces::head_front))]
+#[tactic(auto, unfolding(crate::specs::PrefixSteps::head_front))]
 pub fn peek_head(bytes: &[u8]) -> (Head, &[u8])
     requires { IsSome (head_front bytes.now) }
     ensures { head_front bytes.now ≡ Some (result.0, result.1.now) }
@@ -36,7 +36,7 @@ pub fn peek_head(bytes: &[u8]) -> (Head, &[u8])
 }
 
 /// So many bytes, and those behind them.
-#[tactic(auto, unfolding(crate::specs::Pieces::bytes_front))]
+#[tactic(auto, unfolding(crate::specs::PrefixSteps::bytes_front))]
 fn peek_bytes(count: usize, bytes: &[u8]) -> (&[u8], &[u8])
     requires { IsSome (bytes_front count bytes.now) }
     ensures is { bytes_front count bytes.now ≡ Some (result.0.now, result.1.now) }
@@ -48,7 +48,7 @@ fn peek_bytes(count: usize, bytes: &[u8]) -> (&[u8], &[u8])
     }
 }
 
-#[tactic(auto, unfolding(crate::specs::Pieces::unsigned_front))]
+#[tactic(auto, unfolding(crate::specs::PrefixSteps::unsigned_front))]
 fn peek_u8(bytes: &[u8]) -> (u8, &[u8])
     requires { IsSome (unsigned_front w8 bytes.now) }
     ensures { unsigned_front w8 bytes.now ≡ Some (result.0, result.1.now) }
@@ -57,7 +57,7 @@ fn peek_u8(bytes: &[u8]) -> (u8, &[u8])
     (number[0], rest)
 }
 
-#[tactic(auto, unfolding(crate::specs::Pieces::unsigned_front))]
+#[tactic(auto, unfolding(crate::specs::PrefixSteps::unsigned_front))]
 fn peek_u32(bytes: &[u8]) -> (u32, &[u8])
     requires { IsSome (unsigned_front w32 bytes.now) }
     ensures { unsigned_front w32 bytes.now ≡ Some (result.0, result.1.now) }
@@ -66,7 +66,7 @@ fn peek_u32(bytes: &[u8]) -> (u32, &[u8])
     (BigEndian::read_u32(number), rest)
 }
 
-#[tactic(auto, unfolding(crate::specs::Pieces::signed_front))]
+#[tactic(auto, unfolding(crate::specs::PrefixSteps::signed_front))]
 fn peek_i8(bytes: &[u8]) -> (i64, &[u8])
     requires { IsSome (signed_front w8 bytes.now) }
     ensures { signed_front w8 bytes.now ≡ Some (result.0, result.1.now) }
@@ -75,7 +75,7 @@ fn peek_i8(bytes: &[u8]) -> (i64, &[u8])
     (i64::from(number[0].cast_signed()), rest)
 }
 
-#[tactic(auto, unfolding(crate::specs::Pieces::signed_front))]
+#[tactic(auto, unfolding(crate::specs::PrefixSteps::signed_front))]
 fn peek_i16(bytes: &[u8]) -> (i64, &[u8])
     requires { IsSome (signed_front w16 bytes.now) }
     ensures { signed_front w16 bytes.now ≡ Some (result.0, result.1.now) }
@@ -84,7 +84,7 @@ fn peek_i16(bytes: &[u8]) -> (i64, &[u8])
     (i64::from(BigEndian::read_i16(number)), rest)
 }
 
-#[tactic(auto, unfolding(crate::specs::Pieces::signed_front))]
+#[tactic(auto, unfolding(crate::specs::PrefixSteps::signed_front))]
 fn peek_i32(bytes: &[u8]) -> (i64, &[u8])
     requires { IsSome (signed_front w32 bytes.now) }
     ensures { signed_front w32 bytes.now ≡ Some (result.0, result.1.now) }
@@ -93,7 +93,7 @@ fn peek_i32(bytes: &[u8]) -> (i64, &[u8])
     (i64::from(BigEndian::read_i32(number)), rest)
 }
 
-#[tactic(auto, unfolding(crate::specs::Pieces::signed_front))]
+#[tactic(auto, unfolding(crate::specs::PrefixSteps::signed_front))]
 fn peek_i64(bytes: &[u8]) -> (i64, &[u8])
     requires { IsSome (signed_front w64 bytes.now) }
     ensures { signed_front w64 bytes.now ≡ Some (result.0, result.1.now) }
@@ -103,7 +103,7 @@ fn peek_i64(bytes: &[u8]) -> (i64, &[u8])
 }
 
 /// A whole number of a type.
-#[tactic(auto, unfolding(crate::specs::Pieces::number_front))]
+#[tactic(auto, unfolding(crate::specs::PrefixSteps::number_front))]
 pub fn peek_number(kind: WireType, bytes: &[u8]) -> (i64, &[u8])
     requires { IsSome (number_front kind bytes.now) }
     ensures { number_front kind bytes.now ≡ Some (result.0, result.1.now) }
@@ -119,7 +119,7 @@ pub fn peek_number(kind: WireType, bytes: &[u8]) -> (i64, &[u8])
 }
 
 /// A size: how many bytes, values or pairs follow.
-#[tactic(auto, unfolding(crate::specs::Pieces::size_front))]
+#[tactic(auto, unfolding(crate::specs::PrefixSteps::size_front))]
 fn peek_size(bytes: &[u8]) -> (u32, &[u8])
     requires { IsSome (size_front bytes.now) }
     ensures is { size_front bytes.now ≡ Some (result.0, result.1.now) }
@@ -131,7 +131,7 @@ fn peek_size(bytes: &[u8]) -> (u32, &[u8])
 }
 
 /// The bytes of a string.
-#[tactic(auto, unfolding(crate::specs::Pieces::text_front))]
+#[tactic(auto, unfolding(crate::specs::PrefixSteps::text_front))]
 pub fn peek_text(kind: WireType, bytes: &[u8]) -> (&[u8], &[u8])
     requires { IsSome (text_front kind bytes.now) }
     ensures { text_front kind bytes.now ≡ Some (result.0.now, result.1.now) }
@@ -150,7 +150,7 @@ pub fn peek_text(kind: WireType, bytes: &[u8]) -> (&[u8], &[u8])
 }
 
 /// The bytes of a simple list.
-#[tactic(auto, unfolding(crate::specs::Pieces::simple_front))]
+#[tactic(auto, unfolding(crate::specs::PrefixSteps::simple_front))]
 pub fn peek_simple(bytes: &[u8]) -> (&[u8], &[u8])
     requires { IsSome (simple_front bytes.now) }
     ensures { simple_front bytes.now ≡ Some (result.0.now, result.1.now) }
@@ -161,7 +161,7 @@ pub fn peek_simple(bytes: &[u8]) -> (&[u8], &[u8])
 }
 
 /// What is open behind the head of a list, a map or a struct, and how many values or pairs it has.
-#[tactic(auto, unfolding(crate::specs::Pieces::entered_front))]
+#[tactic(auto, unfolding(crate::specs::PrefixSteps::entered_front))]
 pub fn enter_level(kind: WireType, bytes: &[u8]) -> (Level, u32, &[u8])
     requires { IsSome (entered_front kind bytes.now) }
     ensures { entered_front kind bytes.now ≡ Some (result.0, result.1, result.2.now) }

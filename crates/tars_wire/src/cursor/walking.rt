@@ -9,7 +9,7 @@ use super::levels::{next_head, past_level};
 use super::pieces::{enter_level, past_value, peek_head, peek_number, peek_simple, peek_text};
 use crate::head::Head;
 use crate::level::Level;
-use crate::spot::MAX_OPEN;
+use crate::head_context::MAX_OPEN;
 
 impl<'a> Cursor<'a> {
     /// A walk over the fields of a body.

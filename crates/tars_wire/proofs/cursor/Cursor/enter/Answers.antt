@@ -1,8 +1,8 @@
 use Rattle.std.proofs.Common.{◌-◌, ◌∷◌, arith}
 use Rattle.tars_wire.specs.Heads.{MAX_DEPTH}
 use Rattle.tars_wire.specs.Left.{entered, Left, levels_around}
-use Rattle.tars_wire.proofs.Turns.{head_needs, seen}
-use Rattle.tars_wire.proofs.Entering.{enter_needs, enter_room, enters, sizes, entered_at, enters_two}
+use Rattle.tars_wire.proofs.Walking.Turns.{head_needs, seen}
+use Rattle.tars_wire.proofs.Walking.Entering.{enter_needs, enter_room, enters, sizes, entered_at, enters_two}
 use Rattle.tars_wire.proofs.cursor.Cursor.enter.Goals as goal
 
 pub peek_head-requires : goal.peek_head-requires

@@ -4,8 +4,8 @@ use mir.Val.{SFits}
 use mir.Syntax.{w64}
 use Rattle.tars_wire.specs.Heads.{MAX_DEPTH}
 use Rattle.tars_wire.specs.Left.{skipped, Left, levels_around, number_in, is_number_type}
-use Rattle.tars_wire.specs.Pieces.{number_front}
-use Rattle.tars_wire.proofs.Turns.{head_needs, needs, leaves, tells, seen, number_of_type, number_law}
+use Rattle.tars_wire.specs.PrefixSteps.{number_front}
+use Rattle.tars_wire.proofs.Walking.Turns.{head_needs, needs, leaves, tells, seen, number_of_type, number_law}
 use Rattle.tars_wire.proofs.cursor.Cursor.number.Goals as goal
 
 pub peek_head-requires : goal.peek_head-requires

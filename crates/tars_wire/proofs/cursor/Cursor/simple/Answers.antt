@@ -1,8 +1,8 @@
 use Rattle.std.proofs.Common.{◌-◌, ◌∷◌}
 use Rattle.tars_wire.specs.Heads.{MAX_DEPTH}
 use Rattle.tars_wire.specs.Left.{skipped, Left, levels_around, simple_in, is_simple_type}
-use Rattle.tars_wire.specs.Pieces.{simple_front}
-use Rattle.tars_wire.proofs.Turns.{head_needs, needs, leaves, tells, seen, simple_of_type, simple_law}
+use Rattle.tars_wire.specs.PrefixSteps.{simple_front}
+use Rattle.tars_wire.proofs.Walking.Turns.{head_needs, needs, leaves, tells, seen, simple_of_type, simple_law}
 use Rattle.tars_wire.proofs.cursor.Cursor.simple.Goals as goal
 
 pub peek_head-requires : goal.peek_head-requires

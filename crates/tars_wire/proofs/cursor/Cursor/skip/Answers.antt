@@ -1,7 +1,7 @@
 use Rattle.std.proofs.Common.{◌-◌, ◌∷◌}
 use Rattle.tars_wire.specs.Heads.{MAX_DEPTH}
 use Rattle.tars_wire.specs.Left.{skipped, Left, levels_around}
-use Rattle.tars_wire.proofs.Turns.{head_needs, can_pass, has_room, skips, seen}
+use Rattle.tars_wire.proofs.Walking.Turns.{head_needs, can_pass, has_room, skips, seen}
 use Rattle.tars_wire.proofs.cursor.Cursor.skip.Goals as goal
 
 pub peek_head-requires : goal.peek_head-requires

@@ -1,8 +1,8 @@
 use Rattle.std.proofs.Common.{◌-◌, ◌∷◌}
 use Rattle.tars_wire.specs.Heads.{MAX_DEPTH}
 use Rattle.tars_wire.specs.Left.{skipped, Left, levels_around, text_in, is_text_type}
-use Rattle.tars_wire.specs.Pieces.{text_front}
-use Rattle.tars_wire.proofs.Turns.{head_needs, needs, leaves, tells, seen, text_of_type, text_law}
+use Rattle.tars_wire.specs.PrefixSteps.{text_front}
+use Rattle.tars_wire.proofs.Walking.Turns.{head_needs, needs, leaves, tells, seen, text_of_type, text_law}
 use Rattle.tars_wire.proofs.cursor.Cursor.text.Goals as goal
 
 pub peek_head-requires : goal.peek_head-requires

@@ -1,7 +1,7 @@
 use Rattle.std.proofs.Common.{◌≡◌, true, false}
 use Rattle.tars_wire.specs.Heads.{is_end}
-use Rattle.tars_wire.specs.Pieces.{is_over}
-use Rattle.tars_wire.proofs.OneField.{level_is_over, head_is_there, head_is_next, end_is_next}
+use Rattle.tars_wire.specs.PrefixSteps.{is_over}
+use Rattle.tars_wire.proofs.Walking.OneField.{level_is_over, head_is_there, head_is_next, end_is_next}
 use Rattle.tars_wire.proofs.cursor.levels.next_head.Goals as goal
 
 pub returns-then-is_over : goal.returns-then-is_over

@@ -1,6 +1,6 @@
 use Rattle.std.proofs.Common.{◌≡◌, ℕ, false, IsSome, is_some, List, sym, ap, ◌∙◌}
 use Rattle.tars_wire.specs.Left.{Remaining, next_field, behind_next, head_in, LevelLeft}
-use Rattle.tars_wire.proofs.Leaving.{next_front, next_passes, next_room, next_left, next_shorter, end_front, end_struct}
+use Rattle.tars_wire.proofs.Walking.Leaving.{next_front, next_passes, next_room, next_left, next_shorter, end_front, end_struct}
 use Rattle.tars_wire.proofs.cursor.levels.past_level.Goals as goal
 
 pub peek_head-requires : goal.peek_head-requires

@@ -1,4 +1,4 @@
--- What stands at a place is a head that may stand there, and what it calls for behind it.
+-- What stands in a context is a head that may stand there, and what it calls for behind it.
 use Rattle.std.proofs.Common.{◌≡◌, ◌<◌, ◌≤◌, ℕ, ◌+◌, ◌*◌, Bool, true, false, cond, eqb, leb, ltb, List, [], ◌∷◌, Some, None, length, refl, sym, ◌∙◌, subst, arith}
 use Rattle.std.specs.Prelude.{◌&&◌, ◌||◌}
 use Rattle.std.specs.Int.{w8, w16, w32, w64}
@@ -10,9 +10,9 @@ use Rattle.tars_wire.specs.declared.wire_type.WireType.TheVariants as wire
 use Rattle.tars_wire.specs.declared.wire_fault.WireWhy.TheVariants as why
 use Rattle.tars_wire.specs.Heads.{opens, is_end, Head, short, long}
 use Rattle.tars_wire.specs.Spelled.{Rules, When, FixedHead, signed, is_zero_tag, is_int1, is_int2, is_int4, is_int8, ContentsBy, is_whole, is_float, is_double, is_string1, is_string4, is_simple_list, is_list, is_map, is_struct}
-use Rattle.tars_wire.specs.Awaited.{wrong_tag, order_fault, of_bytes, Part, contents}
-use Rattle.tars_wire.proofs.Meaning.{Parts}
-use Rattle.tars_wire.proofs.Counts.{run_there, run_back, value_of, later_there, later_back, value_four}
+use Rattle.tars_wire.specs.MachineSteps.{wrong_tag, order_fault, of_bytes, Part, contents}
+use Rattle.tars_wire.proofs.Machine.Meaning.{Parts}
+use Rattle.tars_wire.proofs.Machine.Counts.{run_there, run_back, value_of, later_there, later_back, value_four}
 
 not_zero : (depth : Bool) (room : ℕ) → When depth (0 < room) → (depth && eqb room 0) ≡ false
 not_zero true room deep = ne_eqb room 0 (λ e. omega arith)

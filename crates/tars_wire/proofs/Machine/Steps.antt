@@ -8,17 +8,17 @@ use Rattle.tars_wire.specs.declared.wire_type.WireType.{WireType}
 use Rattle.tars_wire.specs.declared.wire_type.WireType.TheVariants as wire
 use Rattle.tars_wire.specs.declared.wire_fault.WireWhy.{WireWhy}
 use Rattle.tars_wire.specs.declared.wire_fault.WireWhy.TheVariants as why
-use Rattle.tars_wire.specs.declared.spot.Spot.{Spot}
-use Rattle.tars_wire.specs.declared.spot.Spot.TheVariants as spot
+use Rattle.tars_wire.specs.declared.head_context.HeadContext.{HeadContext}
+use Rattle.tars_wire.specs.declared.head_context.HeadContext.TheVariants as heads
 use Rattle.tars_wire.specs.declared.head.FirstByte.{FirstByte}
 use Rattle.tars_wire.specs.declared.head.FirstByte.TheVariants as first
 use Rattle.tars_wire.specs.Heads.{MAX_DEPTH, is_end, Head, short}
 use Rattle.tars_wire.specs.Spelled.{Rules, FixedHead, is_zero_tag, is_whole, ValuesBy, no_more_values, one_value, PairsBy, no_more_pairs, one_pair, no_more_fields}
-use Rattle.tars_wire.specs.Awaited.{negative, wrong_tag, order_fault, tag_fault, unless, first_byte, Kind, of_bytes, of_values, of_pairs, Place, in_struct, an_element, a_key, its_value, a_size, simple_head, spot_of, Part, raw, size_first, size_later, head_of, counted, contents, after, Inside, parts, tag_of, head_step, part_step, tag_step, State, within, body_tag, lift_step, body_step, step, may_end}
-use Rattle.tars_wire.proofs.Meaning.{Run, Counted, Later, Sized, Awaits, Parts, Insides, Body, body_behind, Language, Form, Said}
-use Rattle.tars_wire.proofs.FirstBytes.{said, unsaid}
-use Rattle.tars_wire.proofs.Counts.{counted_there, counted_back}
-use Rattle.tars_wire.proofs.Places.{Behind, placed_form, form_placed, body_form, form_body}
+use Rattle.tars_wire.specs.MachineSteps.{negative, wrong_tag, order_fault, tag_fault, unless, first_byte, Kind, of_bytes, of_values, of_pairs, Context, in_struct, an_element, a_key, its_value, a_size, simple_head, head_context, Part, raw, size_first, size_later, head_of, counted, contents, after, Inside, parts, tag_of, head_step, part_step, tag_step, State, within, body_tag, lift_step, body_step, step, may_end}
+use Rattle.tars_wire.proofs.Machine.Meaning.{Run, Counted, Later, Sized, Awaits, Parts, Insides, Body, body_behind, Language, Form, Said}
+use Rattle.tars_wire.proofs.Machine.FirstBytes.{said, unsaid}
+use Rattle.tars_wire.proofs.Machine.Counts.{counted_there, counted_back}
+use Rattle.tars_wire.proofs.Machine.Contexts.{Behind, context_form, form_context, body_form, form_body}
 
 abbrev pub IsByte : ℕ → Type 0
 IsByte byte = byte < 256
@@ -27,17 +27,17 @@ IsByte byte = byte < 256
 abbrev pub Inner : Rules → (List ℕ → Type 0) → Inside → List ℕ → Type 0
 Inner rules After inside w = Insides rules inside w After
 
-head_there : (rules : Rules) (place : Place) (below : List Part) (After : List ℕ → Type 0) (r : Result FirstByte WireWhy) (w : List ℕ) → Said rules (spot_of place) (Behind rules place below After) r w → Goes (Inner rules After) (head_step place below r) w
-head_there rules place below After (Ok (first.Whole head)) w x = x
-head_there rules place below After (Ok (first.Long type)) [] x = x
-head_there rules place below After (Ok (first.Long type)) (tag ∷ w) x = x
-head_there rules place below After (Err fault) w x = x
+head_there : (rules : Rules) (context : Context) (below : List Part) (After : List ℕ → Type 0) (r : Result FirstByte WireWhy) (w : List ℕ) → Said rules (head_context context) (Behind rules context below After) r w → Goes (Inner rules After) (head_step context below r) w
+head_there rules context below After (Ok (first.Whole head)) w x = x
+head_there rules context below After (Ok (first.Long type)) [] x = x
+head_there rules context below After (Ok (first.Long type)) (tag ∷ w) x = x
+head_there rules context below After (Err fault) w x = x
 
-head_back : (rules : Rules) (place : Place) (below : List Part) (After : List ℕ → Type 0) (r : Result FirstByte WireWhy) (w : List ℕ) → Goes (Inner rules After) (head_step place below r) w → Said rules (spot_of place) (Behind rules place below After) r w
-head_back rules place below After (Ok (first.Whole head)) w x = x
-head_back rules place below After (Ok (first.Long type)) [] x = x
-head_back rules place below After (Ok (first.Long type)) (tag ∷ w) x = x
-head_back rules place below After (Err fault) w x = x
+head_back : (rules : Rules) (context : Context) (below : List Part) (After : List ℕ → Type 0) (r : Result FirstByte WireWhy) (w : List ℕ) → Goes (Inner rules After) (head_step context below r) w → Said rules (head_context context) (Behind rules context below After) r w
+head_back rules context below After (Ok (first.Whole head)) w x = x
+head_back rules context below After (Ok (first.Long type)) [] x = x
+head_back rules context below After (Ok (first.Long type)) (tag ∷ w) x = x
+head_back rules context below After (Err fault) w x = x
 
 -- a byte below 128 is the first of a size, and so is another where sizes may be negative
 small : (rules : Rules) (more byte : ℕ) (to : Inside) (below : List Part) (After : List ℕ → Type 0) (w : List ℕ) → ((byte < 128) × Insides rules to w After) ⊎ ((rules.sizes ≡ false) × (128 ≤ byte) × (byte < 256) × Run more w (λ v. Parts rules below v After)) → Goes (Inner rules After) (cond (ltb byte 128) (Ok to) (negative rules.sizes more below)) w
@@ -65,8 +65,8 @@ part_there rules (size_first kind zero) below byte w After (inr x) = small rules
 part_there rules (size_first kind (suc more)) below byte w After x = small rules (suc more) byte (parts (size_later kind more byte ∷ below)) below After w x
 part_there rules (size_later kind zero so_far) below byte w After x = counted_there rules kind (so_far * 256 + byte) w below After x.1
 part_there rules (size_later kind (suc more) so_far) below byte w After x = x.1
-part_there rules (head_of place) below byte w After x =
-    head_there rules place below After (first_byte rules (spot_of place) byte) w (said rules (spot_of place) byte w (Behind rules place below After) (placed_form rules place (byte ∷ w) below After x))
+part_there rules (head_of context) below byte w After x =
+    head_there rules context below After (first_byte rules (head_context context) byte) w (said rules (head_context context) byte w (Behind rules context below After) (context_form rules context (byte ∷ w) below After x))
 
 part_back : (rules : Rules) (part : Part) (below : List Part) (byte : ℕ) (w : List ℕ) (After : List ℕ → Type 0) → byte < 256 → Goes (Inner rules After) (part_step rules part below byte) w → Parts rules (part ∷ below) (byte ∷ w) After
 part_back rules (raw zero) below byte w After fits x = (fits, x)
@@ -76,8 +76,8 @@ part_back rules (size_first kind zero) below byte w After fits x =
 part_back rules (size_first kind (suc more)) below byte w After fits x = small_back rules (suc more) byte (parts (size_later kind more byte ∷ below)) below After w fits x
 part_back rules (size_later kind zero so_far) below byte w After fits x = (fits, counted_back rules kind (so_far * 256 + byte) w below After x)
 part_back rules (size_later kind (suc more) so_far) below byte w After fits x = (fits, x)
-part_back rules (head_of place) below byte w After fits x =
-    form_placed rules place (byte ∷ w) below After (unsaid rules (spot_of place) byte w (Behind rules place below After) fits (head_back rules place below After (first_byte rules (spot_of place) byte) w x))
+part_back rules (head_of context) below byte w After fits x =
+    form_context rules context (byte ∷ w) below After (unsaid rules (head_context context) byte w (Behind rules context below After) fits (head_back rules context below After (first_byte rules (head_context context) byte) w x))
 
 -- a tag in a byte of its own
 pub unless_there : {X : Type 0} (L : X → List ℕ → Type 0) (fault : Option WireWhy) (to : X) (w : List ℕ) → fault ≡ None → L to w → Goes L (unless fault to) w
@@ -95,34 +95,34 @@ lift_back : (rules : Rules) (from : ℕ) (r : Result Inside WireWhy) (w : List �
 lift_back rules from (Ok inside) w x = x
 lift_back rules from (Err fault) w x = x
 
-body_there : (rules : Rules) (from : ℕ) (r : Result FirstByte WireWhy) (w : List ℕ) → Said rules (spot.Body from) (body_behind rules) r w → Goes (Language rules) (body_step from r) w
+body_there : (rules : Rules) (from : ℕ) (r : Result FirstByte WireWhy) (w : List ℕ) → Said rules (heads.Body from) (body_behind rules) r w → Goes (Language rules) (body_step from r) w
 body_there rules from (Ok (first.Whole head)) w x = x
 body_there rules from (Ok (first.Long type)) [] x = x
 body_there rules from (Ok (first.Long type)) (tag ∷ w) x = x
 body_there rules from (Err fault) w x = x
 
-body_back : (rules : Rules) (from : ℕ) (r : Result FirstByte WireWhy) (w : List ℕ) → Goes (Language rules) (body_step from r) w → Said rules (spot.Body from) (body_behind rules) r w
+body_back : (rules : Rules) (from : ℕ) (r : Result FirstByte WireWhy) (w : List ℕ) → Goes (Language rules) (body_step from r) w → Said rules (heads.Body from) (body_behind rules) r w
 body_back rules from (Ok (first.Whole head)) w x = x
 body_back rules from (Ok (first.Long type)) [] x = x
 body_back rules from (Ok (first.Long type)) (tag ∷ w) x = x
 body_back rules from (Err fault) w x = x
 
 goes_there : (rules : Rules) (state : State) (byte : ℕ) (w : List ℕ) → Language rules state (byte ∷ w) → Goes (Language rules) (step rules state byte) w
-goes_there rules (within (parts []) from) byte w x = body_there rules from (first_byte rules (spot.Body from) byte) w (said rules (spot.Body from) byte w (body_behind rules) (body_form rules x.1))
+goes_there rules (within (parts []) from) byte w x = body_there rules from (first_byte rules (heads.Body from) byte) w (said rules (heads.Body from) byte w (body_behind rules) (body_form rules x.1))
 goes_there rules (within (parts (part ∷ below)) from) byte w x = lift_there rules from (part_step rules part below byte) w (part_there rules part below byte w (Body rules from) x)
-goes_there rules (within (tag_of place type below) from) byte w x =
-    lift_there rules from (tag_step rules place type below byte) w (unless_there (Inner rules (Body rules from)) (tag_fault rules (spot_of place) type byte) (parts (after place byte type below)) w x.1 x.2)
+goes_there rules (within (tag_of context type below) from) byte w x =
+    lift_there rules from (tag_step rules context type below byte) w (unless_there (Inner rules (Body rules from)) (tag_fault rules (head_context context) type byte) (parts (after context byte type below)) w x.1 x.2)
 goes_there rules (body_tag from type) byte w x =
-    unless_there (Language rules) (tag_fault rules (spot.Body from) type byte) (within (parts (contents MAX_DEPTH type [])) (byte + 1)) w x.1 x.2
+    unless_there (Language rules) (tag_fault rules (heads.Body from) type byte) (within (parts (contents MAX_DEPTH type [])) (byte + 1)) w x.1 x.2
 
 goes_back : (rules : Rules) (state : State) (byte : ℕ) (w : List ℕ) → IsByte byte → Goes (Language rules) (step rules state byte) w → Language rules state (byte ∷ w)
-goes_back rules (within (parts []) from) byte w fits x = form_body rules from (byte ∷ w) (unsaid rules (spot.Body from) byte w (body_behind rules) fits (body_back rules from (first_byte rules (spot.Body from) byte) w x))
+goes_back rules (within (parts []) from) byte w fits x = form_body rules from (byte ∷ w) (unsaid rules (heads.Body from) byte w (body_behind rules) fits (body_back rules from (first_byte rules (heads.Body from) byte) w x))
 goes_back rules (within (parts (part ∷ below)) from) byte w fits x = part_back rules part below byte w (Body rules from) fits (lift_back rules from (part_step rules part below byte) w x)
-goes_back rules (within (tag_of place type below) from) byte w fits x =
-    let t = unless_back (Inner rules (Body rules from)) (tag_fault rules (spot_of place) type byte) (parts (after place byte type below)) w (lift_back rules from (tag_step rules place type below byte) w x) in
+goes_back rules (within (tag_of context type below) from) byte w fits x =
+    let t = unless_back (Inner rules (Body rules from)) (tag_fault rules (head_context context) type byte) (parts (after context byte type below)) w (lift_back rules from (tag_step rules context type below byte) w x) in
     (fits, t.0, t.1)
 goes_back rules (body_tag from type) byte w fits x =
-    let t = unless_back (Language rules) (tag_fault rules (spot.Body from) type byte) (within (parts (contents MAX_DEPTH type [])) (byte + 1)) w x in
+    let t = unless_back (Language rules) (tag_fault rules (heads.Body from) type byte) (within (parts (contents MAX_DEPTH type [])) (byte + 1)) w x in
     (fits, t.0, t.1)
 
 -- completions: zeros for bytes, the field 0C for values and keys, 1C for a map's value, 0B for a struct's end
@@ -195,7 +195,7 @@ end_or_field : (rules : Rules) (ends : Bool) (from : ℕ) → (tag : ℕ) × (ta
 end_or_field rules true from = (0, lit< tt, (due rules.fixed_tags).0)
 end_or_field rules false from = (255, lit< tt, last_fits rules.rising_tags from)
 
-some_tag : (rules : Rules) (place : Place) (type : WireType) → (tag : ℕ) × (tag < 256) × (tag_fault rules (spot_of place) type tag ≡ None)
+some_tag : (rules : Rules) (context : Context) (type : WireType) → (tag : ℕ) × (tag < 256) × (tag_fault rules (head_context context) type tag ≡ None)
 unfolding tag_fault
 some_tag rules (in_struct from room) type = end_or_field rules (is_end type) from
 some_tag rules (an_element more room) type = (0, lit< tt, (due rules.fixed_tags).0)
@@ -204,34 +204,34 @@ some_tag rules (its_value more room) type = (1, lit< tt, (due rules.fixed_tags).
 some_tag rules (a_size kind) type = (0, lit< tt, (due rules.fixed_tags).0)
 some_tag rules simple_head type = (0, lit< tt, (due rules.fixed_tags).0)
 
-last_tag : (rules : Rules) (from : ℕ) (type : WireType) → tag_fault rules (spot.Body from) type 255 ≡ None
+last_tag : (rules : Rules) (from : ℕ) (type : WireType) → tag_fault rules (heads.Body from) type 255 ≡ None
 unfolding tag_fault
 last_tag rules from type = last_fits rules.rising_tags from
 
 goes_fill : (rules : Rules) (state : State) → (w : List ℕ) × Language rules state w
 goes_fill rules (within (parts ps) from) = parts_fill rules ps (Body rules from) [] (no_fields, no_more_fields)
-goes_fill rules (within (tag_of place type below) from) =
-    let tag = some_tag rules place type in
-    let t = parts_fill rules (after place tag.0 type below) (Body rules from) [] (no_fields, no_more_fields) in
+goes_fill rules (within (tag_of context type below) from) =
+    let tag = some_tag rules context type in
+    let t = parts_fill rules (after context tag.0 type below) (Body rules from) [] (no_fields, no_more_fields) in
     (tag.0 ∷ t.0, (tag.1, tag.2, t.1))
 goes_fill rules (body_tag from type) =
     let t = parts_fill rules (contents MAX_DEPTH type []) (Body rules (255 + 1)) [] (no_fields, no_more_fields) in
     (255 ∷ t.0, (lit< tt, last_tag rules from type, t.1))
 
 -- nothing begins with no bytes
-no_head : {rules : Rules} {place : Spot} {B : WireType → ℕ → List ℕ → Type 0} → Form rules place [] B → ⊥
+no_head : {rules : Rules} {context : HeadContext} {B : WireType → ℕ → List ℕ → Type 0} → Form rules context [] B → ⊥
 no_head f = elim f.head [ ]
 
 pub part_ends : (rules : Rules) (part : Part) (After : List ℕ → Type 0) (below : List Part) → Parts rules (part ∷ below) [] After → ⊥
 part_ends rules (raw more) After below x = x
 part_ends rules (size_first kind more) After below x = x
 part_ends rules (size_later kind more so_far) After below x = x
-part_ends rules (head_of place) After below x = no_head (placed_form rules place [] below After x)
+part_ends rules (head_of context) After below x = no_head (context_form rules context [] below After x)
 
 goes_ends : (rules : Rules) (state : State) → Ends (Language rules state) (may_end state)
 goes_ends rules (within (parts []) from) = (no_fields, no_more_fields)
 goes_ends rules (within (parts (part ∷ below)) from) = part_ends rules part (Body rules from) below
-goes_ends rules (within (tag_of place type below) from) = λ x. x
+goes_ends rules (within (tag_of context type below) from) = λ x. x
 goes_ends rules (body_tag from type) = λ x. x
 
 pub reads : (rules : Rules) → Reads (step rules) may_end IsByte (Language rules)

@@ -5,8 +5,8 @@ use Rattle.tars_wire.specs.declared.wire_type.WireType.{WireType}
 use Rattle.tars_wire.specs.declared.wire_type.WireType.TheVariants as wire
 use Rattle.tars_wire.specs.declared.wire_fault.WireWhy.{WireWhy}
 use Rattle.tars_wire.specs.declared.wire_fault.WireWhy.TheVariants as why
-use Rattle.tars_wire.specs.declared.spot.Spot.{Spot}
-use Rattle.tars_wire.specs.declared.spot.Spot.TheVariants as spot
+use Rattle.tars_wire.specs.declared.head_context.HeadContext.{HeadContext}
+use Rattle.tars_wire.specs.declared.head_context.HeadContext.TheVariants as heads
 use Rattle.tars_wire.specs.declared.head.FirstByte.{FirstByte}
 use Rattle.tars_wire.specs.declared.head.FirstByte.TheVariants as first
 use Rattle.tars_wire.specs.Heads.{MAX_DEPTH, type_of, opens, is_end}
@@ -29,12 +29,12 @@ not true = false
 not false = true
 
 -- first the type is judged
-unfoldable pub takes : Spot → WireType → Bool
-takes (spot.Body from) type = not (is_end type)
-takes (spot.Struct from room) type = true
-takes (spot.Item tag room) type = not (is_end type)
-takes spot.Size type = is_size type
-takes spot.Simple type = is_int1 type
+unfoldable pub takes : HeadContext → WireType → Bool
+takes (heads.Body from) type = not (is_end type)
+takes (heads.Struct from room) type = true
+takes (heads.Item tag room) type = not (is_end type)
+takes heads.Size type = is_size type
+takes heads.Simple type = is_int1 type
 
 -- A tag is not below `from`, where rising tags are kept. The last tag of all is judged at the head's first
 -- byte (`is_full`).
@@ -48,23 +48,23 @@ wrong_tag true wanted tag = if tag == wanted then None else Some why.BadTag
 wrong_tag false wanted tag = None
 
 -- then the tag, where the byte holds it
-unfoldable pub tag_fault : Rules → Spot → WireType → ℕ → Option WireWhy
-tag_fault rules (spot.Body from) type tag = order_fault rules.rising_tags from tag
-tag_fault rules (spot.Struct from room) type tag = if is_end type then wrong_tag rules.fixed_tags 0 tag else order_fault rules.rising_tags from tag
-tag_fault rules (spot.Item wanted room) type tag = wrong_tag rules.fixed_tags wanted tag
-tag_fault rules spot.Size type tag = wrong_tag rules.fixed_tags 0 tag
-tag_fault rules spot.Simple type tag = wrong_tag rules.fixed_tags 0 tag
+unfoldable pub tag_fault : Rules → HeadContext → WireType → ℕ → Option WireWhy
+tag_fault rules (heads.Body from) type tag = order_fault rules.rising_tags from tag
+tag_fault rules (heads.Struct from room) type tag = if is_end type then wrong_tag rules.fixed_tags 0 tag else order_fault rules.rising_tags from tag
+tag_fault rules (heads.Item wanted room) type tag = wrong_tag rules.fixed_tags wanted tag
+tag_fault rules heads.Size type tag = wrong_tag rules.fixed_tags 0 tag
+tag_fault rules heads.Simple type tag = wrong_tag rules.fixed_tags 0 tag
 
 -- after tag 255 no tag is left for a field
-unfoldable pub is_full : Rules → Spot → WireType → Bool
-is_full rules (spot.Body from) type = rules.rising_tags && nat_lt 255 from
-is_full rules (spot.Struct from room) type = not (is_end type) && (rules.rising_tags && nat_lt 255 from)
+unfoldable pub is_full : Rules → HeadContext → WireType → Bool
+is_full rules (heads.Body from) type = rules.rising_tags && nat_lt 255 from
+is_full rules (heads.Struct from room) type = not (is_end type) && (rules.rising_tags && nat_lt 255 from)
 is_full rules _ type = false
 
 -- then the depth
-unfoldable pub is_deep : Rules → Spot → WireType → Bool
-is_deep rules (spot.Struct from room) type = opens type && (rules.depth && room == 0)
-is_deep rules (spot.Item tag room) type = opens type && (rules.depth && room == 0)
+unfoldable pub is_deep : Rules → HeadContext → WireType → Bool
+is_deep rules (heads.Struct from room) type = opens type && (rules.depth && room == 0)
+is_deep rules (heads.Item tag room) type = opens type && (rules.depth && room == 0)
 is_deep rules _ type = false
 
 abbrev pub unless : {X : Type 0} → Option WireWhy → X → Result X WireWhy
@@ -76,30 +76,30 @@ abbrev pub sooner : Option WireWhy → Option WireWhy → Option WireWhy
 sooner None other = other
 sooner (Some fault) other = Some fault
 
-abbrev pub depth_fault : Rules → Spot → WireType → Option WireWhy
-depth_fault rules place type = if is_deep rules place type then Some why.Depth else None
+abbrev pub depth_fault : Rules → HeadContext → WireType → Option WireWhy
+depth_fault rules context type = if is_deep rules context type then Some why.Depth else None
 
 -- the first that is wrong, of a head in one byte
-unfoldable pub short_fault : Rules → Spot → WireType → ℕ → Option WireWhy
-short_fault rules place type tag = sooner (tag_fault rules place type tag) (depth_fault rules place type)
+unfoldable pub short_fault : Rules → HeadContext → WireType → ℕ → Option WireWhy
+short_fault rules context type tag = sooner (tag_fault rules context type tag) (depth_fault rules context type)
 
 -- and of the first byte of a long one
-unfoldable pub long_fault : Rules → Spot → WireType → Option WireWhy
-long_fault rules place type = if is_full rules place type then Some why.Order else depth_fault rules place type
+unfoldable pub long_fault : Rules → HeadContext → WireType → Option WireWhy
+long_fault rules context type = if is_full rules context type then Some why.Order else depth_fault rules context type
 
--- what a head's first byte says at a place, by its type and its high four bits
-unfoldable pub judged_byte : Rules → Spot → WireType → ℕ → Result FirstByte WireWhy
-judged_byte rules place type high =
-    if takes place type
-    then (if high == 15 then unless (long_fault rules place type) (first.Long type) else unless (short_fault rules place type high) (first.Whole (record { tag = high; kind = type })))
+-- what a head's first byte says in a context, by its type and its high four bits
+unfoldable pub judged_byte : Rules → HeadContext → WireType → ℕ → Result FirstByte WireWhy
+judged_byte rules context type high =
+    if takes context type
+    then (if high == 15 then unless (long_fault rules context type) (first.Long type) else unless (short_fault rules context type high) (first.Whole (record { tag = high; kind = type })))
     else Err why.BadType
 
-abbrev pub typed_byte : Rules → Spot → Option WireType → ℕ → Result FirstByte WireWhy
-typed_byte rules place None high = Err why.BadType
-typed_byte rules place (Some type) high = judged_byte rules place type high
+abbrev pub typed_byte : Rules → HeadContext → Option WireType → ℕ → Result FirstByte WireWhy
+typed_byte rules context None high = Err why.BadType
+typed_byte rules context (Some type) high = judged_byte rules context type high
 
-unfoldable pub first_byte : Rules → Spot → ℕ → Result FirstByte WireWhy
-first_byte rules place byte = typed_byte rules place (type_of (byte % 16)) (byte / 16)
+unfoldable pub first_byte : Rules → HeadContext → ℕ → Result FirstByte WireWhy
+first_byte rules context byte = typed_byte rules context (type_of (byte % 16)) (byte / 16)
 
 -- what a size counts
 pub data Kind : Type 0 where
@@ -108,21 +108,21 @@ pub data Kind : Type 0 where
   of_pairs : ℕ → Kind
 
 -- Where a head stands. The counts are of those behind this one.
-pub data Place : Type 0 where
-  in_struct : (from room : ℕ) → Place
-  an_element : (more room : ℕ) → Place
-  a_key : (more room : ℕ) → Place
-  its_value : (more room : ℕ) → Place
-  a_size : Kind → Place
-  simple_head : Place
+pub data Context : Type 0 where
+  in_struct : (from room : ℕ) → Context
+  an_element : (more room : ℕ) → Context
+  a_key : (more room : ℕ) → Context
+  its_value : (more room : ℕ) → Context
+  a_size : Kind → Context
+  simple_head : Context
 
-abbrev pub spot_of : Place → Spot
-spot_of (in_struct from room) = spot.Struct from room
-spot_of (an_element more room) = spot.Item 0 room
-spot_of (a_key more room) = spot.Item 0 room
-spot_of (its_value more room) = spot.Item 1 room
-spot_of (a_size kind) = spot.Size
-spot_of simple_head = spot.Simple
+abbrev pub head_context : Context → HeadContext
+head_context (in_struct from room) = heads.Struct from room
+head_context (an_element more room) = heads.Item 0 room
+head_context (a_key more room) = heads.Item 0 room
+head_context (its_value more room) = heads.Item 1 room
+head_context (a_size kind) = heads.Size
+head_context simple_head = heads.Simple
 
 -- A part that is awaited, of at least one byte: one byte and so many more, the first byte of a number of so
 -- many more, one byte and so many more of a number that so far is this, or a head.
@@ -130,7 +130,7 @@ pub data Part : Type 0 where
   raw : (more : ℕ) → Part
   size_first : Kind → (more : ℕ) → Part
   size_later : Kind → (more so_far : ℕ) → Part
-  head_of : Place → Part
+  head_of : Context → Part
 
 -- what a size of n calls for
 abbrev pub counted : Kind → ℕ → List Part → List Part
@@ -166,7 +166,7 @@ size_bytes kind wire.Int4 below = size_first kind 3 ∷ below
 size_bytes kind _ below = counted kind 0 below
 
 -- what a head with this tag and type calls for
-abbrev pub after : Place → ℕ → WireType → List Part → List Part
+abbrev pub after : Context → ℕ → WireType → List Part → List Part
 after (in_struct from room) tag type below = if is_end type then below else contents room type (head_of (in_struct (tag + 1) room) ∷ below)
 after (an_element more room) tag type below = contents room type (counted (of_values room) more below)
 after (a_key more room) tag type below = contents room type (head_of (its_value more room) ∷ below)
@@ -177,12 +177,12 @@ after simple_head tag type below = head_of (a_size of_bytes) ∷ below
 -- the parts that are awaited inside a field, the next one first, or first of all the tag of a head
 pub data Inside : Type 0 where
   parts : List Part → Inside
-  tag_of : Place → WireType → List Part → Inside
+  tag_of : Context → WireType → List Part → Inside
 
-abbrev pub head_step : Place → List Part → Result FirstByte WireWhy → Result Inside WireWhy
-head_step place below (Ok (first.Whole head)) = Ok (parts (after place head.tag head.kind below))
-head_step place below (Ok (first.Long type)) = Ok (tag_of place type below)
-head_step place below (Err fault) = Err fault
+abbrev pub head_step : Context → List Part → Result FirstByte WireWhy → Result Inside WireWhy
+head_step context below (Ok (first.Whole head)) = Ok (parts (after context head.tag head.kind below))
+head_step context below (Ok (first.Long type)) = Ok (tag_of context type below)
+head_step context below (Err fault) = Err fault
 
 -- a size that is negative: its other bytes are passed, and nothing is counted
 abbrev pub negative : Bool → ℕ → List Part → Result Inside WireWhy
@@ -197,10 +197,10 @@ part_step rules (size_first kind zero) below byte = if nat_lt byte 128 then Ok (
 part_step rules (size_first kind (suc more)) below byte = if nat_lt byte 128 then Ok (parts (size_later kind more byte ∷ below)) else negative rules.sizes (suc more) below
 part_step rules (size_later kind zero so_far) below byte = Ok (parts (counted kind (so_far * 256 + byte) below))
 part_step rules (size_later kind (suc more) so_far) below byte = Ok (parts (size_later kind more (so_far * 256 + byte) ∷ below))
-part_step rules (head_of place) below byte = head_step place below (first_byte rules (spot_of place) byte)
+part_step rules (head_of context) below byte = head_step context below (first_byte rules (head_context context) byte)
 
-abbrev pub tag_step : Rules → Place → WireType → List Part → ℕ → Result Inside WireWhy
-tag_step rules place type below tag = unless (tag_fault rules (spot_of place) type tag) (parts (after place tag type below))
+abbrev pub tag_step : Rules → Context → WireType → List Part → ℕ → Result Inside WireWhy
+tag_step rules context type below tag = unless (tag_fault rules (head_context context) type tag) (parts (after context tag type below))
 
 -- Before a byte of a body: inside a field, behind which the tags go on with one from `from` on; or behind
 -- the first byte of a long head.
@@ -218,10 +218,10 @@ body_step from (Ok (first.Long type)) = Ok (body_tag from type)
 body_step from (Err fault) = Err fault
 
 abbrev pub step : Rules → State → ℕ → Result State WireWhy
-step rules (within (parts []) from) byte = body_step from (first_byte rules (spot.Body from) byte)
+step rules (within (parts []) from) byte = body_step from (first_byte rules (heads.Body from) byte)
 step rules (within (parts (part ∷ below)) from) byte = lift_step from (part_step rules part below byte)
-step rules (within (tag_of place type below) from) tag = lift_step from (tag_step rules place type below tag)
-step rules (body_tag from type) tag = unless (tag_fault rules (spot.Body from) type tag) (within (parts (contents MAX_DEPTH type [])) (tag + 1))
+step rules (within (tag_of context type below) from) tag = lift_step from (tag_step rules context type below tag)
+step rules (body_tag from type) tag = unless (tag_fault rules (heads.Body from) type tag) (within (parts (contents MAX_DEPTH type [])) (tag + 1))
 
 -- a body may end between two fields
 abbrev pub may_end : State → Bool

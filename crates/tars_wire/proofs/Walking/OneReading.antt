@@ -7,8 +7,8 @@ use Rattle.tars_wire.specs.declared.level.Level.TheVariants as level
 use Rattle.tars_wire.specs.Heads.{Head}
 use Rattle.tars_wire.specs.Spelled.{Contents, Pairs, Fields}
 use Rattle.tars_wire.specs.Left.{Remaining, fields_left, values_left, pairs_left, value_left, LevelLeft, Left}
-use Rattle.tars_wire.proofs.HeadLemmas.{same_head, by_head}
-use Rattle.tars_wire.proofs.Unique.{Same, same_contents, same_values, same_pairs, same_fields, all_read, at_close}
+use Rattle.tars_wire.proofs.Grammar.Heads.{same_head, by_head}
+use Rattle.tars_wire.proofs.Grammar.Unique.{Same, same_contents, same_values, same_pairs, same_fields, all_read, at_close}
 
 -- ---- one reading
 

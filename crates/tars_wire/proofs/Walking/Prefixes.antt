@@ -9,17 +9,17 @@ use Rattle.tars_wire.specs.declared.wire_fault.WireWhy.{WireWhy}
 use Rattle.tars_wire.specs.declared.stop.Stop.{Stop}
 use Rattle.tars_wire.specs.Heads.{code_of, Head, short, long}
 use Rattle.tars_wire.specs.Spelled.{Bytes, no_bytes, byte, signed, Number, is_zero_tag, is_int1, is_int2, is_int4, is_int8, IsSize, Size, Contents, is_whole, is_float, is_double, is_string1, is_string4, is_simple_list, is_list, is_map, is_struct, ALL}
-use Rattle.tars_wire.specs.Awaited.{contents, Inside, parts, tag_of, part_step, tag_step, tag_fault, spot_of, after}
-use Rattle.tars_wire.specs.Reading.{stops_at, reading, contents_at}
+use Rattle.tars_wire.specs.MachineSteps.{contents, Inside, parts, tag_of, part_step, tag_step, tag_fault, head_context, after}
+use Rattle.tars_wire.specs.ScanSteps.{stops_at, reading, contents_at}
 use Rattle.tars_wire.specs.Left.{value_of_number, text_in, simple_in}
-use Rattle.tars_wire.specs.Pieces.{◌>>=◌, typed_front, head_front, bytes_front, unsigned_front, signed_front, number_front, size_front, text_front, simple_front}
+use Rattle.tars_wire.specs.PrefixSteps.{◌>>=◌, typed_front, head_front, bytes_front, unsigned_front, signed_front, number_front, size_front, text_front, simple_front}
 use Rattle.longest_front.specs.Machine.{Goes}
-use Rattle.tars_wire.proofs.HeadLemmas.{type_of-code_of, code_below}
-use Rattle.tars_wire.proofs.Meaning.{Insides}
-use Rattle.tars_wire.proofs.Steps.{Inner, part_there, part_ends, unless_there}
-use Rattle.tars_wire.proofs.Counts.{positive}
-use Rattle.tars_wire.proofs.Forms.{contents_there}
-use Rattle.tars_wire.proofs.Readings.{bind_ok, reading_contents}
+use Rattle.tars_wire.proofs.Grammar.Heads.{type_of-code_of, code_below}
+use Rattle.tars_wire.proofs.Machine.Meaning.{Insides}
+use Rattle.tars_wire.proofs.Machine.Steps.{Inner, part_there, part_ends, unless_there}
+use Rattle.tars_wire.proofs.Machine.Counts.{positive}
+use Rattle.tars_wire.proofs.Machine.Forms.{contents_there}
+use Rattle.tars_wire.proofs.Scanning.Readings.{bind_ok, reading_contents}
 
 halves : (b high low : ℕ) → b ≡ 16 * high + low → low < 14 → (b % 16 ≡ low) × (b / 16 ≡ high)
 halves b high low e below = (omega arith, omega arith)
@@ -145,9 +145,9 @@ reading_complete (parts (part ∷ below)) [] After x = absurd (part_ends ALL par
 reading_complete (parts (part ∷ below)) (b ∷ w) After x =
     let t = step_read b w After (part_step ALL part below b) (part_there ALL part below b w After x) (λ to y. reading_complete to w After y) in
     record { rest = t.0; is = t.1; after = t.2 }
-reading_complete (tag_of place type below) [] After x = absurd x
-reading_complete (tag_of place type below) (tag ∷ w) After x =
-    let t = step_read tag w After (tag_step ALL place type below tag) (unless_there (Inner ALL After) (tag_fault ALL (spot_of place) type tag) (parts (after place tag type below)) w x.1 x.2) (λ to y. reading_complete to w After y) in
+reading_complete (tag_of context type below) [] After x = absurd x
+reading_complete (tag_of context type below) (tag ∷ w) After x =
+    let t = step_read tag w After (tag_step ALL context type below tag) (unless_there (Inner ALL After) (tag_fault ALL (head_context context) type tag) (parts (after context tag type below)) w x.1 x.2) (λ to y. reading_complete to w After y) in
     record { rest = t.0; is = t.1; after = t.2 }
 
 pub contents_complete : {room : ℕ} {type : WireType} {v : WireValue} {w rest : List ℕ} → Contents room type v w rest → contents_at room type w ≡ Ok rest

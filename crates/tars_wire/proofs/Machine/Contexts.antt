@@ -1,23 +1,23 @@
--- What stands at a place is a head that may stand there, and what it calls for behind it; and back.
+-- What stands in a context is a head that may stand there, and what it calls for behind it; and back.
 use Rattle.std.proofs.Common.{◌≡◌, ℕ, suc, ◌+◌, Bool, true, false, cond, eqb, ltb, List, [], ◌∷◌, None, refl, sym, subst}
 use Rattle.std.specs.Prelude.{◌&&◌}
 use Rattle.wire_words.specs.Tree.{WireNumber, WireValues, value, WirePairs, pair, WireFields, no_fields, field}
 use Rattle.tars_wire.specs.declared.wire_type.WireType.{WireType}
 use Rattle.tars_wire.specs.declared.wire_type.WireType.TheVariants as wire
-use Rattle.tars_wire.specs.declared.spot.Spot.TheVariants as spot
+use Rattle.tars_wire.specs.declared.head_context.HeadContext.TheVariants as heads
 use Rattle.tars_wire.specs.Heads.{MAX_DEPTH, opens, is_end, Head}
 use Rattle.tars_wire.specs.Spelled.{Rules, FixedHead, Number, is_zero_tag, is_int1, is_int2, is_int4, is_int8, IsSizeBy, ValuesBy, one_value, PairsBy, one_pair, FieldsBy, no_more_fields, one_field}
-use Rattle.tars_wire.specs.Awaited.{not, is_size, is_int1 as is_int1_type, wrong_tag, order_fault, takes, tag_fault, is_full, is_deep, of_values, of_pairs, Place, in_struct, an_element, a_key, its_value, a_size, simple_head, spot_of, Part, head_of, counted, contents, after}
-use Rattle.tars_wire.proofs.Unique.{not_end}
-use Rattle.tars_wire.proofs.Meaning.{Placed, Parts, Form, Body, body_behind}
-use Rattle.tars_wire.proofs.Counts.{counted_there, counted_back, size_there, size_back}
-use Rattle.tars_wire.proofs.Forms.{room_left, contents_there, contents_back, head_fits, above, not_last, from_order, tag_there, tag_back}
+use Rattle.tars_wire.specs.MachineSteps.{not, is_size, is_int1 as is_int1_type, wrong_tag, order_fault, takes, tag_fault, is_full, is_deep, of_values, of_pairs, Context, in_struct, an_element, a_key, its_value, a_size, simple_head, head_context, Part, head_of, counted, contents, after}
+use Rattle.tars_wire.proofs.Grammar.Unique.{not_end}
+use Rattle.tars_wire.proofs.Machine.Meaning.{InContext, Parts, Form, Body, body_behind}
+use Rattle.tars_wire.proofs.Machine.Counts.{counted_there, counted_back, size_there, size_back}
+use Rattle.tars_wire.proofs.Machine.Forms.{room_left, contents_there, contents_back, head_fits, above, not_last, from_order, tag_there, tag_back}
 
--- what is behind a head at a place
-abbrev pub Behind : Rules → Place → List Part → (List ℕ → Type 0) → WireType → ℕ → List ℕ → Type 0
-Behind rules place below After type tag v = Parts rules (after place tag type below) v After
+-- what is behind a head in a context
+abbrev pub Behind : Rules → Context → List Part → (List ℕ → Type 0) → WireType → ℕ → List ℕ → Type 0
+Behind rules context below After type tag v = Parts rules (after context tag type below) v After
 
-struct_form : (rules : Rules) {room from : ℕ} {fs : WireFields} {w mid : List ℕ} (rest : List ℕ) (below : List Part) (After : List ℕ → Type 0) → FieldsBy rules room from fs w mid → FixedHead rules.fixed_tags 0 wire.StructEnd mid rest → Parts rules below rest After → Form rules (spot.Struct from room) w (Behind rules (in_struct from room) below After)
+struct_form : (rules : Rules) {room from : ℕ} {fs : WireFields} {w mid : List ℕ} (rest : List ℕ) (below : List Part) (After : List ℕ → Type 0) → FieldsBy rules room from fs w mid → FixedHead rules.fixed_tags 0 wire.StructEnd mid rest → Parts rules below rest After → Form rules (heads.Struct from room) w (Behind rules (in_struct from room) below After)
 unfolding takes tag_fault is_full is_deep
 struct_form rules rest below After no_more_fields close k =
     let at = tag_there rules.fixed_tags close in
@@ -36,7 +36,7 @@ struct_form rules {room = room} {from = from} {mid = mid} rest below After (one_
       behind = subst P (sym (not_end contents_here)) (contents_there rules contents_here (head_of (in_struct (tag + 1) room) ∷ below) After (fs, mid, rest, fields, close, k));
     }
 
-element_form : (rules : Rules) {room more : ℕ} {vs : WireValues} {w rest : List ℕ} (below : List Part) (After : List ℕ → Type 0) → ValuesBy rules room (suc more) vs w rest → Parts rules below rest After → Form rules (spot.Item 0 room) w (Behind rules (an_element more room) below After)
+element_form : (rules : Rules) {room more : ℕ} {vs : WireValues} {w rest : List ℕ} (below : List Part) (After : List ℕ → Type 0) → ValuesBy rules room (suc more) vs w rest → Parts rules below rest After → Form rules (heads.Item 0 room) w (Behind rules (an_element more room) below After)
 unfolding takes tag_fault is_full is_deep
 element_form rules {room = room} {more = more} {rest = rest} below After (one_value {type = type} {values = vs} {behind = behind} {next = next} head contents_here values) k =
     let at = tag_there rules.fixed_tags head in
@@ -52,7 +52,7 @@ element_form rules {room = room} {more = more} {rest = rest} below After (one_va
       behind = contents_there rules contents_here (counted (of_values room) more below) After (counted_there rules (of_values room) more next below After (vs, rest, values, k));
     }
 
-key_form : (rules : Rules) {room more : ℕ} {ps : WirePairs} {w rest : List ℕ} (below : List Part) (After : List ℕ → Type 0) → PairsBy rules room (suc more) ps w rest → Parts rules below rest After → Form rules (spot.Item 0 room) w (Behind rules (a_key more room) below After)
+key_form : (rules : Rules) {room more : ℕ} {ps : WirePairs} {w rest : List ℕ} (below : List Part) (After : List ℕ → Type 0) → PairsBy rules room (suc more) ps w rest → Parts rules below rest After → Form rules (heads.Item 0 room) w (Behind rules (a_key more room) below After)
 unfolding takes tag_fault is_full is_deep
 key_form rules {room = room} {more = more} {rest = rest} below After (one_pair {key_type = key_type} {type = type} {v = v} {pairs = ps} {key_behind = key_behind} {behind = behind} {next = next} key_head key head contents_here pairs) k =
     let at = tag_there rules.fixed_tags key_head in
@@ -75,12 +75,12 @@ size_type sizes n (is_int2 bytes size) e = refl
 size_type sizes n (is_int4 bytes size) e = refl
 size_type sizes n (is_int8 bytes size) e = absurd e
 
-pub placed_form : (rules : Rules) (place : Place) (w : List ℕ) (below : List Part) (After : List ℕ → Type 0) → Placed rules place w (λ v. Parts rules below v After) → Form rules (spot_of place) w (Behind rules place below After)
+pub context_form : (rules : Rules) (context : Context) (w : List ℕ) (below : List Part) (After : List ℕ → Type 0) → InContext rules context w (λ v. Parts rules below v After) → Form rules (head_context context) w (Behind rules context below After)
 unfolding takes tag_fault is_full is_deep
-placed_form rules (in_struct from room) w below After x = struct_form rules x.2 below After x.3 x.4 x.5
-placed_form rules (an_element more room) w below After x = element_form rules below After x.2 x.3
-placed_form rules (a_key more room) w below After x = key_form rules below After x.2 x.3
-placed_form rules (its_value more room) w below After x =
+context_form rules (in_struct from room) w below After x = struct_form rules x.2 below After x.3 x.4 x.5
+context_form rules (an_element more room) w below After x = element_form rules below After x.2 x.3
+context_form rules (a_key more room) w below After x = key_form rules below After x.2 x.3
+context_form rules (its_value more room) w below After x =
     let at = tag_there rules.fixed_tags x.4 in
     record {
       type = x.0;
@@ -93,7 +93,7 @@ placed_form rules (its_value more room) w below After x =
       not_deep = room_left rules x.5;
       behind = contents_there rules x.5 (counted (of_pairs room) more below) After (counted_there rules (of_pairs room) more x.3 below After x.6);
     }
-placed_form rules (a_size kind) w below After x =
+context_form rules (a_size kind) w below After x =
     let at = tag_there rules.fixed_tags x.2.head in
     record {
       type = x.2.type;
@@ -106,7 +106,7 @@ placed_form rules (a_size kind) w below After x =
       not_deep = refl;
       behind = size_there rules kind x.0 below After x.2.contents x.2.size x.3;
     }
-placed_form rules simple_head w below After x =
+context_form rules simple_head w below After x =
     let at = tag_there rules.fixed_tags x.1 in
     record { type = wire.Int1; tag = at.tag; rest = x.0; head = at.head; taken = refl; tag_fits = at.fits; not_full = refl; not_deep = refl; behind = x.2 }
 
@@ -149,37 +149,37 @@ no_end : (b : Bool) → not b ≡ true → b ≡ false
 no_end false e = refl
 no_end true e = absurd (false_true e)
 
-struct_placed : (rules : Rules) (from room tag : ℕ) (type : WireType) (ends : Bool) (w rest : List ℕ) (below : List Part) (After : List ℕ → Type 0) → is_end type ≡ ends → Head tag type w rest → cond ends (wrong_tag rules.fixed_tags 0 tag) (order_fault rules.rising_tags from tag) ≡ None → (not ends && (rules.rising_tags && ltb 255 from)) ≡ false → (opens type && (rules.depth && eqb room 0)) ≡ false → Parts rules (cond ends below (contents room type (head_of (in_struct (tag + 1) room) ∷ below))) rest After → Placed rules (in_struct from room) w (λ v. Parts rules below v After)
-struct_placed rules from room tag type true w rest below After e head fits full deep k =
+struct_context : (rules : Rules) (from room tag : ℕ) (type : WireType) (ends : Bool) (w rest : List ℕ) (below : List Part) (After : List ℕ → Type 0) → is_end type ≡ ends → Head tag type w rest → cond ends (wrong_tag rules.fixed_tags 0 tag) (order_fault rules.rising_tags from tag) ≡ None → (not ends && (rules.rising_tags && ltb 255 from)) ≡ false → (opens type && (rules.depth && eqb room 0)) ≡ false → Parts rules (cond ends below (contents room type (head_of (in_struct (tag + 1) room) ∷ below))) rest After → InContext rules (in_struct from room) w (λ v. Parts rules below v After)
+struct_context rules from room tag type true w rest below After e head fits full deep k =
     let closes : FixedHead rules.fixed_tags 0 type w rest = tag_back rules.fixed_tags 0 head fits in
     (no_fields, w, rest, no_more_fields, subst (λ (t : WireType). FixedHead rules.fixed_tags 0 t w rest) (end_type type e) closes, k)
-struct_placed rules from room tag type false w rest below After e head fits full deep k =
+struct_context rules from room tag type false w rest below After e head fits full deep k =
     let some = contents_back rules room type (head_of (in_struct (tag + 1) room) ∷ below) rest After e deep k in
     let x = some.after in
     (field tag some.v x.0, x.1, x.2, one_field head (from_order rules.rising_tags from tag (head_fits head) fits full) some.spelled x.3, x.4, x.5)
 
-pub form_placed : (rules : Rules) (place : Place) (w : List ℕ) (below : List Part) (After : List ℕ → Type 0) → Form rules (spot_of place) w (Behind rules place below After) → Placed rules place w (λ v. Parts rules below v After)
+pub form_context : (rules : Rules) (context : Context) (w : List ℕ) (below : List Part) (After : List ℕ → Type 0) → Form rules (head_context context) w (Behind rules context below After) → InContext rules context w (λ v. Parts rules below v After)
 unfolding takes tag_fault is_full is_deep
-form_placed rules (in_struct from room) w below After f =
-    struct_placed rules from room f.tag f.type (is_end f.type) w f.rest below After refl f.head f.tag_fits f.not_full f.not_deep f.behind
-form_placed rules (an_element more room) w below After f =
+form_context rules (in_struct from room) w below After f =
+    struct_context rules from room f.tag f.type (is_end f.type) w f.rest below After refl f.head f.tag_fits f.not_full f.not_deep f.behind
+form_context rules (an_element more room) w below After f =
     let some = contents_back rules room f.type (counted (of_values room) more below) f.rest After (no_end (is_end f.type) f.taken) f.not_deep f.behind in
     let x = counted_back rules (of_values room) more some.rest below After some.after in
     (value some.v x.0, x.1, one_value (tag_back rules.fixed_tags 0 f.head f.tag_fits) some.spelled x.2, x.3)
-form_placed rules (a_key more room) w below After f =
+form_context rules (a_key more room) w below After f =
     let some = contents_back rules room f.type (head_of (its_value more room) ∷ below) f.rest After (no_end (is_end f.type) f.taken) f.not_deep f.behind in
     let x = some.after in
     (pair some.v x.1 x.6.0, x.6.1, one_pair (tag_back rules.fixed_tags 0 f.head f.tag_fits) some.spelled x.4 x.5 x.6.2, x.6.3)
-form_placed rules (its_value more room) w below After f =
+form_context rules (its_value more room) w below After f =
     let some = contents_back rules room f.type (counted (of_pairs room) more below) f.rest After (no_end (is_end f.type) f.taken) f.not_deep f.behind in
     (f.type, some.v, f.rest, some.rest, tag_back rules.fixed_tags 1 f.head f.tag_fits, some.spelled, counted_back rules (of_pairs room) more some.rest below After some.after)
-form_placed rules (a_size kind) w below After f =
+form_context rules (a_size kind) w below After f =
     let s = size_back rules kind f.type below f.rest After f.taken f.behind in
     (s.n, s.mid, record { type = f.type; number = s.number; behind = f.rest; head = tag_back rules.fixed_tags 0 f.head f.tag_fits; contents = s.contents; size = s.size }, s.counts)
-form_placed rules simple_head w below After f =
+form_context rules simple_head w below After f =
     (f.rest, subst (λ (t : WireType). FixedHead rules.fixed_tags 0 t w f.rest) (int1_type f.type f.taken) (tag_back rules.fixed_tags 0 f.head f.tag_fits), f.behind)
 
-pub body_form : (rules : Rules) {from byte : ℕ} {fs : WireFields} {w : List ℕ} → FieldsBy rules MAX_DEPTH from fs (byte ∷ w) [] → Form rules (spot.Body from) (byte ∷ w) (body_behind rules)
+pub body_form : (rules : Rules) {from byte : ℕ} {fs : WireFields} {w : List ℕ} → FieldsBy rules MAX_DEPTH from fs (byte ∷ w) [] → Form rules (heads.Body from) (byte ∷ w) (body_behind rules)
 unfolding takes tag_fault is_full is_deep
 body_form rules {from = from} (one_field {tag = tag} {type = type} {fields = fs} {behind = behind} head le contents_here fields) =
     record {
@@ -199,7 +199,7 @@ deep_enough false depth = refl
 deep_enough true true = refl
 deep_enough true false = refl
 
-pub form_body : (rules : Rules) (from : ℕ) (w : List ℕ) → Form rules (spot.Body from) w (body_behind rules) → Body rules from w
+pub form_body : (rules : Rules) (from : ℕ) (w : List ℕ) → Form rules (heads.Body from) w (body_behind rules) → Body rules from w
 unfolding takes tag_fault is_full is_deep
 form_body rules from w f =
     let some = contents_back rules MAX_DEPTH f.type [] f.rest (Body rules (f.tag + 1)) (no_end (is_end f.type) f.taken) (deep_enough (opens f.type) rules.depth) f.behind in

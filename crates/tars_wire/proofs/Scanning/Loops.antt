@@ -1,12 +1,12 @@
 -- One turn of a loop: what is left to be read after it is what was left before, but for the piece.
 use Rattle.std.proofs.Common.{[], ◌∷◌, length, ◌≡◌, ◌<◌, ◌≤◌, ℕ, suc, ◌+◌, ◌-◌, true, false, cond, List, Result, Ok, Err, sym, ap, ◌∙◌, arith}
 use Rattle.tars_wire.specs.declared.stop.Stop.{Stop}
-use Rattle.tars_wire.specs.declared.spot.Spot.TheVariants as spot
+use Rattle.tars_wire.specs.declared.head_context.HeadContext.TheVariants as heads
 use Rattle.tars_wire.specs.declared.head.Head.{Head}
 use Rattle.tars_wire.specs.Heads.{MAX_DEPTH, is_end}
-use Rattle.tars_wire.specs.Reading.{◌>>=◌, head_at, contents_at, fields_at, body_at}
-use Rattle.tars_wire.proofs.Readings.{one_field_more}
-use Rattle.tars_wire.proofs.Judging.{body_ends, one_body_field}
+use Rattle.tars_wire.specs.ScanSteps.{◌>>=◌, head_at, contents_at, fields_at, body_at}
+use Rattle.tars_wire.proofs.Scanning.Readings.{one_field_more}
+use Rattle.tars_wire.proofs.Scanning.Verdicts.{body_ends, one_body_field}
 
 module _ (F : ℕ → List ℕ → Result (List ℕ) Stop) (one : List ℕ → Result (List ℕ) Stop) where
   pub counted_on : ((n : ℕ) (w : List ℕ) → F (suc n) w ≡ one w >>= F n) → (count i : ℕ) (w v : List ℕ) (total : Result (List ℕ) Stop) → i < count → one w ≡ Ok v → F (count - i) w ≡ total → F (count - (i + 1)) v ≡ total
@@ -29,28 +29,28 @@ abbrev field_then : ℕ → Result (Head × List ℕ) Stop → Result (List ℕ)
 field_then room r = r >>= (λ h. cond (is_end h.0.kind) (Ok h.1) (contents_at room h.0.kind h.1 >>= fields_at (h.0.tag + 1) room))
 
 module _ (from room : ℕ) (w : List ℕ) (total : Result (List ℕ) Stop) (so_far : fields_at from room w ≡ total) where
-  pub head_fails : (stop : Stop) → head_at (spot.Struct from room) w ≡ Err stop → total ≡ Err stop
+  pub head_fails : (stop : Stop) → head_at (heads.Struct from room) w ≡ Err stop → total ≡ Err stop
   head_fails stop e = sym so_far ∙ (one_field_more from room w ∙ ap (field_then room) e)
 
-  pub struct_ends : (head : Head) (v : List ℕ) → head_at (spot.Struct from room) w ≡ Ok (head, v) → is_end head.kind ≡ true → total ≡ Ok v
+  pub struct_ends : (head : Head) (v : List ℕ) → head_at (heads.Struct from room) w ≡ Ok (head, v) → is_end head.kind ≡ true → total ≡ Ok v
   struct_ends head v e ends =
       sym so_far ∙ (one_field_more from room w ∙ (ap (field_then room) e ∙ ap (λ b. cond b (Ok v) (contents_at room head.kind v >>= fields_at (head.tag + 1) room)) ends))
 
-  to_contents : (head : Head) (v : List ℕ) → head_at (spot.Struct from room) w ≡ Ok (head, v) → is_end head.kind ≡ false → total ≡ contents_at room head.kind v >>= fields_at (head.tag + 1) room
+  to_contents : (head : Head) (v : List ℕ) → head_at (heads.Struct from room) w ≡ Ok (head, v) → is_end head.kind ≡ false → total ≡ contents_at room head.kind v >>= fields_at (head.tag + 1) room
   to_contents head v e ends =
       sym so_far ∙ (one_field_more from room w ∙ (ap (field_then room) e ∙ ap (λ b. cond b (Ok v) (contents_at room head.kind v >>= fields_at (head.tag + 1) room)) ends))
 
-  pub contents_fail : (head : Head) (v : List ℕ) (stop : Stop) → head_at (spot.Struct from room) w ≡ Ok (head, v) → is_end head.kind ≡ false → contents_at room head.kind v ≡ Err stop → total ≡ Err stop
+  pub contents_fail : (head : Head) (v : List ℕ) (stop : Stop) → head_at (heads.Struct from room) w ≡ Ok (head, v) → is_end head.kind ≡ false → contents_at room head.kind v ≡ Err stop → total ≡ Err stop
   contents_fail head v stop e ends f = to_contents head v e ends ∙ ap (λ r. r >>= fields_at (head.tag + 1) room) f
 
-  pub fields_on : (head : Head) (v next : List ℕ) → head_at (spot.Struct from room) w ≡ Ok (head, v) → is_end head.kind ≡ false → contents_at room head.kind v ≡ Ok next → fields_at (head.tag + 1) room next ≡ total
+  pub fields_on : (head : Head) (v next : List ℕ) → head_at (heads.Struct from room) w ≡ Ok (head, v) → is_end head.kind ≡ false → contents_at room head.kind v ≡ Ok next → fields_at (head.tag + 1) room next ≡ total
   fields_on head v next e ends f = sym (to_contents head v e ends ∙ ap (λ r. r >>= fields_at (head.tag + 1) room) f)
 
 -- and of a field of the body
 abbrev body_then : Result (Head × List ℕ) Stop → Result (List ℕ) Stop
 body_then r = r >>= (λ h. contents_at MAX_DEPTH h.0.kind h.1 >>= body_at (h.0.tag + 1))
 
-one_more : (from : ℕ) (w : List ℕ) → 0 < length w → body_at from w ≡ body_then (head_at (spot.Body from) w)
+one_more : (from : ℕ) (w : List ℕ) → 0 < length w → body_at from w ≡ body_then (head_at (heads.Body from) w)
 one_more from [] some = absurd (omega arith)
 one_more from (byte ∷ rest) some = one_body_field from byte rest
 
@@ -62,11 +62,11 @@ module _ (from : ℕ) (w : List ℕ) (total : Result (List ℕ) Stop) (so_far : 
       go [] none = body_ends from
       go (byte ∷ rest) none = absurd (omega arith)
 
-  pub body_head_fails : (stop : Stop) → 0 < length w → head_at (spot.Body from) w ≡ Err stop → total ≡ Err stop
+  pub body_head_fails : (stop : Stop) → 0 < length w → head_at (heads.Body from) w ≡ Err stop → total ≡ Err stop
   body_head_fails stop some e = sym so_far ∙ (one_more from w some ∙ ap body_then e)
 
-  pub body_contents_fail : (head : Head) (v : List ℕ) (stop : Stop) → 0 < length w → head_at (spot.Body from) w ≡ Ok (head, v) → contents_at MAX_DEPTH head.kind v ≡ Err stop → total ≡ Err stop
+  pub body_contents_fail : (head : Head) (v : List ℕ) (stop : Stop) → 0 < length w → head_at (heads.Body from) w ≡ Ok (head, v) → contents_at MAX_DEPTH head.kind v ≡ Err stop → total ≡ Err stop
   body_contents_fail head v stop some e f = sym so_far ∙ (one_more from w some ∙ (ap body_then e ∙ ap (λ r. r >>= body_at (head.tag + 1)) f))
 
-  pub body_on : (head : Head) (v next : List ℕ) → 0 < length w → head_at (spot.Body from) w ≡ Ok (head, v) → contents_at MAX_DEPTH head.kind v ≡ Ok next → body_at (head.tag + 1) next ≡ total
+  pub body_on : (head : Head) (v next : List ℕ) → 0 < length w → head_at (heads.Body from) w ≡ Ok (head, v) → contents_at MAX_DEPTH head.kind v ≡ Ok next → body_at (head.tag + 1) next ≡ total
   body_on head v next some e f = sym (one_more from w some ∙ (ap body_then e ∙ ap (λ r. r >>= body_at (head.tag + 1)) f)) ∙ so_far

@@ -8,13 +8,13 @@ use Rattle.tars_wire.specs.declared.wire_type.WireType.TheVariants as wire
 use Rattle.tars_wire.specs.declared.wire_fault.WireWhy.{WireWhy}
 use Rattle.tars_wire.specs.declared.wire_fault.WireWhy.TheVariants as why
 use Rattle.tars_wire.specs.declared.stop.Stop.{Stop}
-use Rattle.tars_wire.specs.declared.spot.Spot.TheVariants as spot
+use Rattle.tars_wire.specs.declared.head_context.HeadContext.TheVariants as heads
 use Rattle.tars_wire.specs.declared.head.FirstByte.{FirstByte}
 use Rattle.tars_wire.specs.declared.head.FirstByte.TheVariants as first
 use Rattle.tars_wire.specs.Heads.{is_end}
 use Rattle.tars_wire.specs.Spelled.{ALL}
-use Rattle.tars_wire.specs.Awaited.{tag_fault, unless, first_byte, Kind, of_bytes, of_values, of_pairs, Place, in_struct, an_element, a_key, its_value, a_size, simple_head, spot_of, Part, raw, size_first, size_later, head_of, counted, contents, size_bytes, after, Inside, parts, tag_of, head_step, part_step, tag_step}
-use Rattle.tars_wire.specs.Reading.{◌>>=◌, too_short, stops_at, judged_tag, tag_at, headed, head_at, past, unsigned_at, not_negative, size_number, size_at, reading, counted_at, fields_at, text_at, simple_list_at, sized_at, contents_at, item_at, pair_at}
+use Rattle.tars_wire.specs.MachineSteps.{tag_fault, unless, first_byte, Kind, of_bytes, of_values, of_pairs, Context, in_struct, an_element, a_key, its_value, a_size, simple_head, head_context, Part, raw, size_first, size_later, head_of, counted, contents, size_bytes, after, Inside, parts, tag_of, head_step, part_step, tag_step}
+use Rattle.tars_wire.specs.ScanSteps.{◌>>=◌, too_short, stops_at, judged_tag, tag_at, headed, head_at, past, unsigned_at, not_negative, size_number, size_at, reading, counted_at, fields_at, text_at, simple_list_at, sized_at, contents_at, item_at, pair_at}
 
 pub bind_assoc : {A B C : Type 0} (r : Result A Stop) (f : A → Result B Stop) (g : B → Result C Stop) → (r >>= f) >>= g ≡ r >>= (λ x. f x >>= g)
 bind_assoc (Ok x) f g = refl
@@ -29,24 +29,24 @@ bind_same (Ok x) f g same = same x
 bind_same (Err stop) f g same = refl
 
 -- the first byte of a head, then its tag
-head_goes : (place : Place) (below : List Part) (byte : ℕ) (rest : List ℕ) (r : Result FirstByte WireWhy)
-    → elim (head_step place below r) [ Ok to ↦ reading to rest | Err fault ↦ Err (stops_at (byte ∷ rest) fault) ]
-    ≡ headed (spot_of place) r byte rest >>= (λ h. reading (parts (after place h.0.tag h.0.kind below)) h.1)
+head_goes : (context : Context) (below : List Part) (byte : ℕ) (rest : List ℕ) (r : Result FirstByte WireWhy)
+    → elim (head_step context below r) [ Ok to ↦ reading to rest | Err fault ↦ Err (stops_at (byte ∷ rest) fault) ]
+    ≡ headed (head_context context) r byte rest >>= (λ h. reading (parts (after context h.0.tag h.0.kind below)) h.1)
 unfolding tag_at
-head_goes place below byte rest (Ok (first.Whole head)) = refl
-head_goes place below byte [] (Ok (first.Long type)) = refl
-head_goes place below byte (tag ∷ rest) (Ok (first.Long type)) = go (tag_fault ALL (spot_of place) type tag)
+head_goes context below byte rest (Ok (first.Whole head)) = refl
+head_goes context below byte [] (Ok (first.Long type)) = refl
+head_goes context below byte (tag ∷ rest) (Ok (first.Long type)) = go (tag_fault ALL (head_context context) type tag)
   where
-    go : (f : Option WireWhy) → elim (unless f (parts (after place tag type below))) [ Ok to ↦ reading to rest | Err fault ↦ Err (stops_at (tag ∷ rest) fault) ]
-        ≡ judged_tag f type tag rest >>= (λ h. reading (parts (after place h.0.tag h.0.kind below)) h.1)
+    go : (f : Option WireWhy) → elim (unless f (parts (after context tag type below))) [ Ok to ↦ reading to rest | Err fault ↦ Err (stops_at (tag ∷ rest) fault) ]
+        ≡ judged_tag f type tag rest >>= (λ h. reading (parts (after context h.0.tag h.0.kind below)) h.1)
     go None = refl
     go (Some fault) = refl
-head_goes place below byte rest (Err fault) = refl
+head_goes context below byte rest (Err fault) = refl
 
-pub reading_head : (place : Place) (below : List Part) (w : List ℕ) → reading (parts (head_of place ∷ below)) w ≡ head_at (spot_of place) w >>= (λ h. reading (parts (after place h.0.tag h.0.kind below)) h.1)
+pub reading_head : (context : Context) (below : List Part) (w : List ℕ) → reading (parts (head_of context ∷ below)) w ≡ head_at (head_context context) w >>= (λ h. reading (parts (after context h.0.tag h.0.kind below)) h.1)
 unfolding head_at
-reading_head place below [] = refl
-reading_head place below (byte ∷ rest) = head_goes place below byte rest (first_byte ALL (spot_of place) byte)
+reading_head context below [] = refl
+reading_head context below (byte ∷ rest) = head_goes context below byte rest (first_byte ALL (head_context context) byte)
 
 -- bytes
 ltb_suc : (a b : ℕ) → ltb (suc a) (suc b) ≡ ltb a b
@@ -152,13 +152,13 @@ pub reading_size : (kind : Kind) (below : List Part) (w : List ℕ) → reading 
 unfolding size_at
 reading_size kind below w =
     reading_head (a_size kind) below w
-    ∙ (bind_same (head_at spot.Size w) (λ h. reading (parts (size_bytes kind h.0.kind below)) h.1) (λ h. size_number h.0.kind h.1 >>= (λ x. reading (parts (counted kind x.0 below)) x.1)) (λ h. reading_size_number kind h.0.kind below h.1)
-    ∙ sym (bind_assoc (head_at spot.Size w) (λ h. size_number h.0.kind h.1) (λ x. reading (parts (counted kind x.0 below)) x.1)))
+    ∙ (bind_same (head_at heads.Size w) (λ h. reading (parts (size_bytes kind h.0.kind below)) h.1) (λ h. size_number h.0.kind h.1 >>= (λ x. reading (parts (counted kind x.0 below)) x.1)) (λ h. reading_size_number kind h.0.kind below h.1)
+    ∙ sym (bind_assoc (head_at heads.Size w) (λ h. size_number h.0.kind h.1) (λ x. reading (parts (counted kind x.0 below)) x.1)))
 
 -- what is awaited behind
 abbrev push : Inside → List Part → Inside
 push (parts below) more = parts (below ++ more)
-push (tag_of place type below) more = tag_of place type (below ++ more)
+push (tag_of context type below) more = tag_of context type (below ++ more)
 
 abbrev pushed : Result Inside WireWhy → List Part → Result Inside WireWhy
 pushed (Ok to) more = Ok (push to more)
@@ -208,7 +208,7 @@ cond_push : (b : Bool) (xs ys xs' ys' more : List Part) → xs' ≡ xs ++ more �
 cond_push true xs ys xs' ys' more e f = e
 cond_push false xs ys xs' ys' more e f = f
 
-after_push : (place : Place) (tag : ℕ) (type : WireType) (below more : List Part) → after place tag type (below ++ more) ≡ after place tag type below ++ more
+after_push : (context : Context) (tag : ℕ) (type : WireType) (below more : List Part) → after context tag type (below ++ more) ≡ after context tag type below ++ more
 after_push (in_struct from room) tag type below more =
     cond_push (is_end type) below (contents room type (head_of (in_struct (tag + 1) room) ∷ below)) (below ++ more) (contents room type (head_of (in_struct (tag + 1) room) ∷ (below ++ more))) more refl (contents_push room type (head_of (in_struct (tag + 1) room) ∷ below) more)
 after_push (an_element n room) tag type below more = ap (contents room type) (counted_push (of_values room) n below more) ∙ contents_push room type (counted (of_values room) n below) more
@@ -217,10 +217,10 @@ after_push (its_value n room) tag type below more = ap (contents room type) (cou
 after_push (a_size kind) tag type below more = size_push kind type below more
 after_push simple_head tag type below more = refl
 
-head_push : (place : Place) (below more : List Part) (r : Result FirstByte WireWhy) → head_step place (below ++ more) r ≡ pushed (head_step place below r) more
-head_push place below more (Ok (first.Whole head)) = ap (λ ps. Ok (parts ps)) (after_push place head.tag head.kind below more)
-head_push place below more (Ok (first.Long type)) = refl
-head_push place below more (Err fault) = refl
+head_push : (context : Context) (below more : List Part) (r : Result FirstByte WireWhy) → head_step context (below ++ more) r ≡ pushed (head_step context below r) more
+head_push context below more (Ok (first.Whole head)) = ap (λ ps. Ok (parts ps)) (after_push context head.tag head.kind below more)
+head_push context below more (Ok (first.Long type)) = refl
+head_push context below more (Err fault) = refl
 
 cond_pushed : (b : Bool) (i j : Inside) (fault : WireWhy) (more : List Part) → j ≡ push i more → cond b (Ok j) (Err fault) ≡ pushed (cond b (Ok i) (Err fault)) more
 cond_pushed true i j fault more e = ap (λ k. Ok k) e
@@ -233,7 +233,7 @@ part_push (size_first kind zero) below more byte = cond_pushed (ltb byte 128) (p
 part_push (size_first kind (suc n)) below more byte = cond_pushed (ltb byte 128) (parts (size_later kind n byte ∷ below)) (parts (size_later kind n byte ∷ (below ++ more))) why.BadSize more refl
 part_push (size_later kind zero so_far) below more byte = ap (λ ps. Ok (parts ps)) (counted_push kind (so_far * 256 + byte) below more)
 part_push (size_later kind (suc n) so_far) below more byte = refl
-part_push (head_of place) below more byte = head_push place below more (first_byte ALL (spot_of place) byte)
+part_push (head_of context) below more byte = head_push context below more (first_byte ALL (head_context context) byte)
 
 unless_push : (fault : Option WireWhy) (i j : Inside) (more : List Part) → j ≡ push i more → unless fault j ≡ pushed (unless fault i) more
 unless_push None i j more e = ap (λ k. Ok k) e
@@ -257,9 +257,9 @@ reading_push (parts []) more w = refl
 reading_push (parts (part ∷ below)) more [] = refl
 reading_push (parts (part ∷ below)) more (byte ∷ rest) =
     one_push more byte rest (part_step ALL part below byte) (part_step ALL part (below ++ more) byte) (part_push part below more byte) (λ to. reading_push to more rest)
-reading_push (tag_of place type below) more [] = refl
-reading_push (tag_of place type below) more (tag ∷ rest) =
-    one_push more tag rest (tag_step ALL place type below tag) (tag_step ALL place type (below ++ more) tag) (unless_push (tag_fault ALL (spot_of place) type tag) (parts (after place tag type below)) (parts (after place tag type (below ++ more))) more (ap parts (after_push place tag type below more))) (λ to. reading_push to more rest)
+reading_push (tag_of context type below) more [] = refl
+reading_push (tag_of context type below) more (tag ∷ rest) =
+    one_push more tag rest (tag_step ALL context type below tag) (tag_step ALL context type (below ++ more) tag) (unless_push (tag_fault ALL (head_context context) type tag) (parts (after context tag type below)) (parts (after context tag type (below ++ more))) more (ap parts (after_push context tag type below more))) (λ to. reading_push to more rest)
 
 pub reading_counted : (kind : Kind) (n : ℕ) (below : List Part) (w : List ℕ) → reading (parts (counted kind n below)) w ≡ counted_at kind n w >>= (λ v. reading (parts below) v)
 unfolding counted_at
@@ -292,8 +292,8 @@ reading_simple : (below : List Part) (w : List ℕ) → reading (parts (head_of 
 unfolding simple_list_at
 reading_simple below w =
     reading_head simple_head below w
-    ∙ (bind_same (head_at spot.Simple w) (λ h. reading (parts (head_of (a_size of_bytes) ∷ below)) h.1) (λ h. (size_at h.1 >>= (λ x. past x.0 x.1)) >>= (λ v. reading (parts below) v)) (λ h. reading_size of_bytes below h.1 ∙ sized_bytes (size_at h.1) below)
-    ∙ sym (bind_assoc (head_at spot.Simple w) (λ h. size_at h.1 >>= (λ x. past x.0 x.1)) (λ v. reading (parts below) v)))
+    ∙ (bind_same (head_at heads.Simple w) (λ h. reading (parts (head_of (a_size of_bytes) ∷ below)) h.1) (λ h. (size_at h.1 >>= (λ x. past x.0 x.1)) >>= (λ v. reading (parts below) v)) (λ h. reading_size of_bytes below h.1 ∙ sized_bytes (size_at h.1) below)
+    ∙ sym (bind_assoc (head_at heads.Simple w) (λ h. size_at h.1 >>= (λ x. past x.0 x.1)) (λ v. reading (parts below) v)))
 
 pub reading_contents : (room : ℕ) (type : WireType) (below : List Part) (w : List ℕ) → reading (parts (contents room type below)) w ≡ contents_at room type w >>= (λ v. reading (parts below) v)
 unfolding contents_at
@@ -326,30 +326,30 @@ pub one_value_more : (room n : ℕ) (w : List ℕ) → counted_at (of_values roo
 unfolding counted_at item_at
 one_value_more room n w =
     reading_head (an_element n room) [] w
-    ∙ (bind_same (head_at (spot.Item 0 room) w) (λ h. reading (parts (contents room h.0.kind (counted (of_values room) n []))) h.1) (λ h. contents_at room h.0.kind h.1 >>= counted_at (of_values room) n) (λ h. reading_contents room h.0.kind (counted (of_values room) n []) h.1)
-    ∙ sym (bind_assoc (head_at (spot.Item 0 room) w) (λ h. contents_at room h.0.kind h.1) (counted_at (of_values room) n)))
+    ∙ (bind_same (head_at (heads.Item 0 room) w) (λ h. reading (parts (contents room h.0.kind (counted (of_values room) n []))) h.1) (λ h. contents_at room h.0.kind h.1 >>= counted_at (of_values room) n) (λ h. reading_contents room h.0.kind (counted (of_values room) n []) h.1)
+    ∙ sym (bind_assoc (head_at (heads.Item 0 room) w) (λ h. contents_at room h.0.kind h.1) (counted_at (of_values room) n)))
 
 value_behind : (room n : ℕ) (w : List ℕ) → reading (parts (head_of (its_value n room) ∷ [])) w ≡ item_at 1 room w >>= counted_at (of_pairs room) n
 unfolding counted_at item_at
 value_behind room n w =
     reading_head (its_value n room) [] w
-    ∙ (bind_same (head_at (spot.Item 1 room) w) (λ h. reading (parts (contents room h.0.kind (counted (of_pairs room) n []))) h.1) (λ h. contents_at room h.0.kind h.1 >>= counted_at (of_pairs room) n) (λ h. reading_contents room h.0.kind (counted (of_pairs room) n []) h.1)
-    ∙ sym (bind_assoc (head_at (spot.Item 1 room) w) (λ h. contents_at room h.0.kind h.1) (counted_at (of_pairs room) n)))
+    ∙ (bind_same (head_at (heads.Item 1 room) w) (λ h. reading (parts (contents room h.0.kind (counted (of_pairs room) n []))) h.1) (λ h. contents_at room h.0.kind h.1 >>= counted_at (of_pairs room) n) (λ h. reading_contents room h.0.kind (counted (of_pairs room) n []) h.1)
+    ∙ sym (bind_assoc (head_at (heads.Item 1 room) w) (λ h. contents_at room h.0.kind h.1) (counted_at (of_pairs room) n)))
 
 pub one_pair_more : (room n : ℕ) (w : List ℕ) → counted_at (of_pairs room) (suc n) w ≡ pair_at room w >>= counted_at (of_pairs room) n
 unfolding counted_at pair_at item_at
 one_pair_more room n w =
     reading_head (a_key n room) [] w
-    ∙ (bind_same (head_at (spot.Item 0 room) w) (λ h. reading (parts (contents room h.0.kind (head_of (its_value n room) ∷ []))) h.1) (λ h. contents_at room h.0.kind h.1 >>= (λ v. item_at 1 room v >>= counted_at (of_pairs room) n)) (λ h. reading_contents room h.0.kind (head_of (its_value n room) ∷ []) h.1 ∙ bind_same (contents_at room h.0.kind h.1) (λ v. reading (parts (head_of (its_value n room) ∷ [])) v) (λ v. item_at 1 room v >>= counted_at (of_pairs room) n) (value_behind room n))
-    ∙ (sym (bind_assoc (head_at (spot.Item 0 room) w) (λ h. contents_at room h.0.kind h.1) (λ v. item_at 1 room v >>= counted_at (of_pairs room) n))
+    ∙ (bind_same (head_at (heads.Item 0 room) w) (λ h. reading (parts (contents room h.0.kind (head_of (its_value n room) ∷ []))) h.1) (λ h. contents_at room h.0.kind h.1 >>= (λ v. item_at 1 room v >>= counted_at (of_pairs room) n)) (λ h. reading_contents room h.0.kind (head_of (its_value n room) ∷ []) h.1 ∙ bind_same (contents_at room h.0.kind h.1) (λ v. reading (parts (head_of (its_value n room) ∷ [])) v) (λ v. item_at 1 room v >>= counted_at (of_pairs room) n) (value_behind room n))
+    ∙ (sym (bind_assoc (head_at (heads.Item 0 room) w) (λ h. contents_at room h.0.kind h.1) (λ v. item_at 1 room v >>= counted_at (of_pairs room) n))
     ∙ sym (bind_assoc (item_at 0 room w) (item_at 1 room) (counted_at (of_pairs room) n))))
 
 -- one field, and the others, or the end
-pub one_field_more : (from room : ℕ) (w : List ℕ) → fields_at from room w ≡ head_at (spot.Struct from room) w >>= (λ h. cond (is_end h.0.kind) (Ok h.1) (contents_at room h.0.kind h.1 >>= fields_at (h.0.tag + 1) room))
+pub one_field_more : (from room : ℕ) (w : List ℕ) → fields_at from room w ≡ head_at (heads.Struct from room) w >>= (λ h. cond (is_end h.0.kind) (Ok h.1) (contents_at room h.0.kind h.1 >>= fields_at (h.0.tag + 1) room))
 unfolding fields_at
 one_field_more from room w =
     reading_head (in_struct from room) [] w
-    ∙ bind_same (head_at (spot.Struct from room) w) (λ h. reading (parts (cond (is_end h.0.kind) [] (contents room h.0.kind (head_of (in_struct (h.0.tag + 1) room) ∷ [])))) h.1) (λ h. cond (is_end h.0.kind) (Ok h.1) (contents_at room h.0.kind h.1 >>= fields_at (h.0.tag + 1) room))
+    ∙ bind_same (head_at (heads.Struct from room) w) (λ h. reading (parts (cond (is_end h.0.kind) [] (contents room h.0.kind (head_of (in_struct (h.0.tag + 1) room) ∷ [])))) h.1) (λ h. cond (is_end h.0.kind) (Ok h.1) (contents_at room h.0.kind h.1 >>= fields_at (h.0.tag + 1) room))
     (λ h. go (is_end h.0.kind) h.0.tag h.0.kind h.1)
   where
     go : (ends : Bool) (tag : ℕ) (type : WireType) (v : List ℕ) → reading (parts (cond ends [] (contents room type (head_of (in_struct (tag + 1) room) ∷ [])))) v ≡ cond ends (Ok v) (contents_at room type v >>= fields_at (tag + 1) room)

@@ -11,11 +11,11 @@ use Rattle.tars_wire.specs.declared.level.Level.TheVariants as level
 use Rattle.tars_wire.specs.Heads.{MAX_DEPTH, opens}
 use Rattle.tars_wire.specs.Spelled.{Number, is_zero_tag, is_int1, is_int2, is_int4, is_int8, Contents, is_whole, is_float, is_double, is_string1, is_string4, is_simple_list, is_list, is_map, is_struct, Values, no_more_values, one_value, Pairs, no_more_pairs, one_pair}
 use Rattle.tars_wire.specs.Left.{AtLevel, left_over, Remaining, size_in, all_inside, next_of, head_left, skipped, entered, inside_next, of_next, LevelLeft, Left, levels_around}
-use Rattle.tars_wire.specs.Pieces.{head_front, entered_front, less}
-use Rattle.tars_wire.proofs.Fronts.{size_front_is}
-use Rattle.tars_wire.proofs.Walks.{left_same}
-use Rattle.tars_wire.proofs.OneField.{Turn, turn}
-use Rattle.tars_wire.proofs.Turns.{found_first, found_second}
+use Rattle.tars_wire.specs.PrefixSteps.{head_front, entered_front, less}
+use Rattle.tars_wire.proofs.Walking.Prefixes.{size_front_is}
+use Rattle.tars_wire.proofs.Walking.OneReading.{left_same}
+use Rattle.tars_wire.proofs.Walking.OneField.{Turn, turn}
+use Rattle.tars_wire.proofs.Walking.Turns.{found_first, found_second}
 
 false_true : false ≡ true → ⊥
 false_true e = cc

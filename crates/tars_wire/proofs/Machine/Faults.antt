@@ -9,11 +9,11 @@ use Rattle.tars_wire.specs.declared.wire_fault.WireWhy.{WireWhy}
 use Rattle.tars_wire.specs.declared.wire_fault.WireWhy.TheVariants as why
 use Rattle.tars_wire.specs.declared.wire_fault.WireFault.{WireFault}
 use Rattle.tars_wire.specs.Spelled.{Rules, TYPES, SIZES, FIXED_TAGS, RISING_TAGS, ALL, IsBodyBy, IsBody}
-use Rattle.tars_wire.specs.Awaited.{State, step, may_end, START}
+use Rattle.tars_wire.specs.MachineSteps.{State, step, may_end, START}
 use Rattle.tars_wire.specs.Faults.{Keeps, Breaks, IsReason, IsFault, HasFault}
-use Rattle.tars_wire.proofs.Meaning.{Language}
-use Rattle.tars_wire.proofs.Steps.{IsByte, reads}
-use Rattle.tars_wire.proofs.Reasons.{Taken, Refused, Told, step_told}
+use Rattle.tars_wire.proofs.Machine.Meaning.{Language}
+use Rattle.tars_wire.proofs.Machine.Steps.{IsByte, reads}
+use Rattle.tars_wire.proofs.Machine.Reasons.{Taken, Refused, Told, step_told}
 
 -- a body, said in two ways
 body_is : (rules : Rules) (w : List ℕ) → Language rules START w → IsBodyBy rules w

@@ -4,8 +4,8 @@ use Rattle.wire_words.specs.Tree.{WireNumber, WireValue, WireValues, WirePairs, 
 use Rattle.tars_wire.specs.declared.wire_type.WireType.{WireType}
 use Rattle.tars_wire.specs.Heads.{Head, short, long}
 use Rattle.tars_wire.specs.Spelled.{Bytes, no_bytes, byte, Number, is_zero_tag, is_int1, is_int2, is_int4, is_int8, Size, Contents, is_whole, is_float, is_double, is_string1, is_string4, is_simple_list, is_list, is_map, is_struct, Values, no_more_values, one_value, Pairs, no_more_pairs, one_pair, Fields, no_more_fields, one_field, SpelledField, Spelled}
-use Rattle.tars_wire.proofs.HeadLemmas.{by_head}
-use Rattle.tars_wire.proofs.Unique.{same_contents, same_fields, all_read}
+use Rattle.tars_wire.proofs.Grammar.Heads.{by_head}
+use Rattle.tars_wire.proofs.Grammar.Unique.{same_contents, same_fields, all_read}
 
 pub head_and : {tag : ℕ} {type : WireType} {input rest : List ℕ} → Head tag type input rest → (more : List ℕ) → Head tag type (input ++ more) (rest ++ more)
 head_and (short e below) more = short e below

@@ -5,13 +5,13 @@ use Rattle.std.specs.Prelude.{◌&&◌, ◌||◌}
 use Rattle.tars_wire.specs.declared.wire_type.WireType.{WireType}
 use Rattle.tars_wire.specs.declared.wire_fault.WireWhy.{WireWhy}
 use Rattle.tars_wire.specs.declared.wire_fault.WireWhy.TheVariants as why
-use Rattle.tars_wire.specs.declared.spot.Spot.{Spot}
-use Rattle.tars_wire.specs.declared.spot.Spot.TheVariants as spot
+use Rattle.tars_wire.specs.declared.head_context.HeadContext.{HeadContext}
+use Rattle.tars_wire.specs.declared.head_context.HeadContext.TheVariants as heads
 use Rattle.tars_wire.specs.declared.head.FirstByte.{FirstByte}
 use Rattle.tars_wire.specs.declared.head.FirstByte.TheVariants as first
 use Rattle.tars_wire.specs.Heads.{MAX_DEPTH, type_of, opens, is_end}
 use Rattle.tars_wire.specs.Spelled.{Rules, TYPES, SIZES, FIXED_TAGS, RISING_TAGS, ALL}
-use Rattle.tars_wire.specs.Awaited.{not, wrong_tag, order_fault, takes, tag_fault, is_full, is_deep, unless, sooner, short_fault, long_fault, judged_byte, typed_byte, first_byte, Place, spot_of, Part, raw, size_first, size_later, head_of, negative, counted, contents, after, Inside, parts, tag_of, head_step, part_step, tag_step, State, within, body_tag, lift_step, body_step, step}
+use Rattle.tars_wire.specs.MachineSteps.{not, wrong_tag, order_fault, takes, tag_fault, is_full, is_deep, unless, sooner, short_fault, long_fault, judged_byte, typed_byte, first_byte, Context, head_context, Part, raw, size_first, size_later, head_of, negative, counted, contents, after, Inside, parts, tag_of, head_step, part_step, tag_step, State, within, body_tag, lift_step, body_step, step}
 
 abbrev pub Taken : {X : Type 0} → Result X WireWhy → Type 0
 Taken (Ok x) = Unit {0}
@@ -63,29 +63,29 @@ plain_fixed : {X : Type 0} (x : X) (b : Bool) → let bad = cond b None (Some wh
 plain_fixed x true = (refl, refl, refl, refl)
 plain_fixed x false = (tt, tt, tt, tt)
 
-tag_told : {X : Type 0} (x : X) (place : Spot) (type : WireType) (tag : ℕ) → Tells (λ rules. unless (tag_fault rules place type tag) x)
+tag_told : {X : Type 0} (x : X) (context : HeadContext) (type : WireType) (tag : ℕ) → Tells (λ rules. unless (tag_fault rules context type tag) x)
 unfolding tag_fault
-tag_told x (spot.Body from) type tag = plain_order x (leb from tag || eqb tag 255)
-tag_told {X} x (spot.Struct from room) type tag = go (is_end type)
+tag_told x (heads.Body from) type tag = plain_order x (leb from tag || eqb tag 255)
+tag_told {X} x (heads.Struct from room) type tag = go (is_end type)
   where
     go : (b : Bool) → Tells (λ rules. unless (cond b (wrong_tag rules.fixed_tags 0 tag) (order_fault rules.rising_tags from tag)) x)
     go true = plain_fixed x (eqb tag 0)
     go false = plain_order x (leb from tag || eqb tag 255)
-tag_told x (spot.Item wanted room) type tag = plain_fixed x (eqb tag wanted)
-tag_told x spot.Size type tag = plain_fixed x (eqb tag 0)
-tag_told x spot.Simple type tag = plain_fixed x (eqb tag 0)
+tag_told x (heads.Item wanted room) type tag = plain_fixed x (eqb tag wanted)
+tag_told x heads.Size type tag = plain_fixed x (eqb tag 0)
+tag_told x heads.Simple type tag = plain_fixed x (eqb tag 0)
 
-short_told : {X : Type 0} (x : X) (place : Spot) (type : WireType) (tag : ℕ) → Tells (λ rules. unless (short_fault rules place type tag) x)
+short_told : {X : Type 0} (x : X) (context : HeadContext) (type : WireType) (tag : ℕ) → Tells (λ rules. unless (short_fault rules context type tag) x)
 unfolding short_fault tag_fault is_deep
-short_told x (spot.Body from) type tag = order_told x (leb from tag || eqb tag 255) false false
-short_told {X} x (spot.Struct from room) type tag = go (is_end type)
+short_told x (heads.Body from) type tag = order_told x (leb from tag || eqb tag 255) false false
+short_told {X} x (heads.Struct from room) type tag = go (is_end type)
   where
     go : (b : Bool) → Tells (λ rules. unless (sooner (cond b (wrong_tag rules.fixed_tags 0 tag) (order_fault rules.rising_tags from tag)) (deep_if (opens type && (rules.depth && eqb room 0)))) x)
     go true = fixed_told x (eqb tag 0) (opens type) (eqb room 0)
     go false = order_told x (leb from tag || eqb tag 255) (opens type) (eqb room 0)
-short_told x (spot.Item wanted room) type tag = fixed_told x (eqb tag wanted) (opens type) (eqb room 0)
-short_told x spot.Size type tag = fixed_told x (eqb tag 0) false false
-short_told x spot.Simple type tag = fixed_told x (eqb tag 0) false false
+short_told x (heads.Item wanted room) type tag = fixed_told x (eqb tag wanted) (opens type) (eqb room 0)
+short_told x heads.Size type tag = fixed_told x (eqb tag 0) false false
+short_told x heads.Simple type tag = fixed_told x (eqb tag 0) false false
 
 -- the first byte of a long head
 full_told : {X : Type 0} (x : X) (field full opening none : Bool) → let lax = deep_if (opening && (false && none)) in
@@ -99,29 +99,29 @@ full_told x false full true true = (tt, tt, tt, tt)
 full_told x false full true false = (refl, refl, refl, refl)
 full_told x false full false none = (refl, refl, refl, refl)
 
-long_told : {X : Type 0} (x : X) (place : Spot) (type : WireType) → Tells (λ rules. unless (long_fault rules place type) x)
+long_told : {X : Type 0} (x : X) (context : HeadContext) (type : WireType) → Tells (λ rules. unless (long_fault rules context type) x)
 unfolding long_fault is_full is_deep
-long_told x (spot.Body from) type = full_told x true (ltb 255 from) false false
-long_told x (spot.Struct from room) type = full_told x (not (is_end type)) (ltb 255 from) (opens type) (eqb room 0)
-long_told x (spot.Item wanted room) type = full_told x false false (opens type) (eqb room 0)
-long_told x spot.Size type = (refl, refl, refl, refl)
-long_told x spot.Simple type = (refl, refl, refl, refl)
+long_told x (heads.Body from) type = full_told x true (ltb 255 from) false false
+long_told x (heads.Struct from room) type = full_told x (not (is_end type)) (ltb 255 from) (opens type) (eqb room 0)
+long_told x (heads.Item wanted room) type = full_told x false false (opens type) (eqb room 0)
+long_told x heads.Size type = (refl, refl, refl, refl)
+long_told x heads.Simple type = (refl, refl, refl, refl)
 
-byte_told : (place : Spot) (byte : ℕ) → Tells (λ rules. first_byte rules place byte)
+byte_told : (context : HeadContext) (byte : ℕ) → Tells (λ rules. first_byte rules context byte)
 unfolding first_byte judged_byte
-byte_told place byte = go (type_of (byte % 16)) (byte / 16)
+byte_told context byte = go (type_of (byte % 16)) (byte / 16)
   where
-    by_form : (type : WireType) (high : ℕ) (b : Bool) → Tells (λ rules. cond b (unless (long_fault rules place type) (first.Long type)) (unless (short_fault rules place type high) (first.Whole (record { tag = high; kind = type }))))
-    by_form type high true = long_told (first.Long type) place type
-    by_form type high false = short_told (first.Whole (record { tag = high; kind = type })) place type high
+    by_form : (type : WireType) (high : ℕ) (b : Bool) → Tells (λ rules. cond b (unless (long_fault rules context type) (first.Long type)) (unless (short_fault rules context type high) (first.Whole (record { tag = high; kind = type }))))
+    by_form type high true = long_told (first.Long type) context type
+    by_form type high false = short_told (first.Whole (record { tag = high; kind = type })) context type high
 
-    by_type : (type : WireType) (high : ℕ) (b : Bool) → Tells (λ rules. cond b (cond (eqb high 15) (unless (long_fault rules place type) (first.Long type)) (unless (short_fault rules place type high) (first.Whole (record { tag = high; kind = type })))) (Err why.BadType))
+    by_type : (type : WireType) (high : ℕ) (b : Bool) → Tells (λ rules. cond b (cond (eqb high 15) (unless (long_fault rules context type) (first.Long type)) (unless (short_fault rules context type high) (first.Whole (record { tag = high; kind = type })))) (Err why.BadType))
     by_type type high true = by_form type high (eqb high 15)
     by_type type high false = (tt, tt, tt, tt)
 
-    go : (o : Option WireType) (high : ℕ) → Tells (λ rules. typed_byte rules place o high)
+    go : (o : Option WireType) (high : ℕ) → Tells (λ rules. typed_byte rules context o high)
     go None high = (tt, tt, tt, tt)
-    go (Some type) high = by_type type high (takes place type)
+    go (Some type) high = by_type type high (takes context type)
 
 -- what goes on is carried on, and what is refused stays so
 pub record Carries {X Y : Type 0} (h : Result X WireWhy → Result Y WireWhy) : Type 0 where
@@ -156,10 +156,10 @@ told_too {X} {Y} h k a b c d (Err fault) t = let P : Result Y WireWhy → Type 0
 tells_too : {X Y : Type 0} (h : Result X WireWhy → Result Y WireWhy) → Carries h → (f : Rules → Result X WireWhy) → Tells f → Tells (λ rules. h (f rules))
 tells_too h k f t = told_too h k (f TYPES) (f SIZES) (f FIXED_TAGS) (f RISING_TAGS) (f ALL) t
 
-head_carries : (place : Place) (below : List Part) → Carries (head_step place below)
-head_carries place below = record { taken = taken; refused = λ why. refl }
+head_carries : (context : Context) (below : List Part) → Carries (head_step context below)
+head_carries context below = record { taken = taken; refused = λ why. refl }
   where
-    taken : (x : FirstByte) → Taken (head_step place below (Ok x))
+    taken : (x : FirstByte) → Taken (head_step context below (Ok x))
     taken (first.Whole head) = tt
     taken (first.Long type) = tt
 
@@ -184,11 +184,11 @@ part_told (size_first kind zero) below byte = size_told (ltb byte 128) (parts (c
 part_told (size_first kind (suc more)) below byte = size_told (ltb byte 128) (parts (size_later kind more byte ∷ below)) (suc more) below
 part_told (size_later kind zero so_far) below byte = (refl, refl, refl, refl)
 part_told (size_later kind (suc more) so_far) below byte = (refl, refl, refl, refl)
-part_told (head_of place) below byte = tells_too (head_step place below) (head_carries place below) (λ rules. first_byte rules (spot_of place) byte) (byte_told (spot_of place) byte)
+part_told (head_of context) below byte = tells_too (head_step context below) (head_carries context below) (λ rules. first_byte rules (head_context context) byte) (byte_told (head_context context) byte)
 
 pub step_told : (state : State) (byte : ℕ) → Tells (λ rules. step rules state byte)
-step_told (within (parts []) from) byte = tells_too (body_step from) (body_carries from) (λ rules. first_byte rules (spot.Body from) byte) (byte_told (spot.Body from) byte)
+step_told (within (parts []) from) byte = tells_too (body_step from) (body_carries from) (λ rules. first_byte rules (heads.Body from) byte) (byte_told (heads.Body from) byte)
 step_told (within (parts (part ∷ below)) from) byte = tells_too (lift_step from) (lift_carries from) (λ rules. part_step rules part below byte) (part_told part below byte)
-step_told (within (tag_of place type below) from) byte =
-    tells_too (lift_step from) (lift_carries from) (λ rules. tag_step rules place type below byte) (tag_told (parts (after place byte type below)) (spot_of place) type byte)
-step_told (body_tag from type) byte = tag_told (within (parts (contents MAX_DEPTH type [])) (byte + 1)) (spot.Body from) type byte
+step_told (within (tag_of context type below) from) byte =
+    tells_too (lift_step from) (lift_carries from) (λ rules. tag_step rules context type below byte) (tag_told (parts (after context byte type below)) (head_context context) type byte)
+step_told (body_tag from type) byte = tag_told (within (parts (contents MAX_DEPTH type [])) (byte + 1)) (heads.Body from) type byte

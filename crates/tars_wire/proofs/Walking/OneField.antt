@@ -10,8 +10,8 @@ use Rattle.tars_wire.specs.declared.level.Level.TheVariants as level
 use Rattle.tars_wire.specs.Heads.{is_end, Head, short, long}
 use Rattle.tars_wire.specs.Spelled.{Number, is_zero_tag, is_int1, is_int2, is_int4, is_int8, Contents, is_whole, is_float, is_double, is_string1, is_string4, is_simple_list, is_list, is_map, is_struct, Values, no_more_values, one_value, Pairs, no_more_pairs, one_pair, Fields, no_more_fields, one_field}
 use Rattle.tars_wire.specs.Left.{Remaining, fields_left, values_left, pairs_left, value_left, next_field, behind_next, type_of_number, type_of_value, next_of, head_in, head_left, skipped, LevelLeft, Left}
-use Rattle.tars_wire.specs.Pieces.{head_front, less, HasMore, is_over}
-use Rattle.tars_wire.proofs.Fronts.{head_front_is}
+use Rattle.tars_wire.specs.PrefixSteps.{head_front, less, HasMore, is_over}
+use Rattle.tars_wire.proofs.Walking.Prefixes.{head_front_is}
 
 -- a value is spelled under its type
 number_type : {type : WireType} {n : WireNumber} {w rest : List ℕ} → Number type n w rest → type ≡ type_of_number n

@@ -1,6 +1,6 @@
 ghost use Rattle.std.specs.Prelude.{◌≡◌, ◌<◌, true};
 ghost use Rattle.tars_wire.specs.Spelled.{ALL};
-ghost use Rattle.tars_wire.specs.Awaited.{order_fault, wrong_tag, takes, tag_fault, is_full, is_deep, short_fault, long_fault, judged_byte, first_byte};
+ghost use Rattle.tars_wire.specs.MachineSteps.{order_fault, wrong_tag, takes, tag_fault, is_full, is_deep, short_fault, long_fault, judged_byte, first_byte};
 
 use crate::head::{FirstByte, Head};
 use crate::wire_fault::WireWhy;
@@ -17,7 +17,7 @@ pub const LAST_TAG: u8 = 255;
 
 /// Where a head is read, and so which types and tags may stand there.
 #[derive(Clone, Copy, Debug, PartialEq, Eq)]
-pub enum Spot {
+pub enum HeadContext {
     /// A field of the body, with a tag of at least this.
     Body { from: u16 },
     /// A field of a struct, with a tag of at least this, or the struct's end. `room` is how many lists,
@@ -51,66 +51,66 @@ fn wrong_tag(wanted: u8, tag: u8) -> Option<WireWhy>
     }
 }
 
-impl Spot {
+impl HeadContext {
     /// Whether a head of this type may stand here.
-    #[tactic(auto, unfolding(crate::specs::Awaited::takes))]
+    #[tactic(auto, unfolding(crate::specs::MachineSteps::takes))]
     fn takes(self, kind: WireType) -> bool
         ensures { result ≡ takes self kind }
     {
         match self {
-            Spot::Body { .. } => !kind.is_end(),
-            Spot::Struct { .. } => true,
-            Spot::Item { .. } => !kind.is_end(),
-            Spot::Size => kind.is_size(),
-            Spot::Simple => kind == WireType::Int1,
+            HeadContext::Body { .. } => !kind.is_end(),
+            HeadContext::Struct { .. } => true,
+            HeadContext::Item { .. } => !kind.is_end(),
+            HeadContext::Size => kind.is_size(),
+            HeadContext::Simple => kind == WireType::Int1,
         }
     }
 
     /// What is wrong with a tag here. The last tag of all is judged at the head's first byte (`is_full`).
-    #[tactic(auto, unfolding(crate::specs::Awaited::tag_fault))]
+    #[tactic(auto, unfolding(crate::specs::MachineSteps::tag_fault))]
     pub fn tag_fault(self, kind: WireType, tag: u8) -> Option<WireWhy>
         ensures { result ≡ tag_fault ALL self kind tag }
     {
         match self {
-            Spot::Body { from } => order_fault(from, tag),
-            Spot::Struct { from, .. } => {
+            HeadContext::Body { from } => order_fault(from, tag),
+            HeadContext::Struct { from, .. } => {
                 if kind.is_end() {
                     wrong_tag(0, tag)
                 } else {
                     order_fault(from, tag)
                 }
             }
-            Spot::Item { tag: wanted, .. } => wrong_tag(wanted, tag),
-            Spot::Size => wrong_tag(0, tag),
-            Spot::Simple => wrong_tag(0, tag),
+            HeadContext::Item { tag: wanted, .. } => wrong_tag(wanted, tag),
+            HeadContext::Size => wrong_tag(0, tag),
+            HeadContext::Simple => wrong_tag(0, tag),
         }
     }
 
     /// Whether no tag is left for a field, since the one before had the last.
-    #[tactic(auto, unfolding(crate::specs::Awaited::is_full))]
+    #[tactic(auto, unfolding(crate::specs::MachineSteps::is_full))]
     fn is_full(self, kind: WireType) -> bool
         ensures { result ≡ is_full ALL self kind }
     {
         match self {
-            Spot::Body { from } => from > u16::from(LAST_TAG),
-            Spot::Struct { from, .. } => !kind.is_end() && from > u16::from(LAST_TAG),
+            HeadContext::Body { from } => from > u16::from(LAST_TAG),
+            HeadContext::Struct { from, .. } => !kind.is_end() && from > u16::from(LAST_TAG),
             _ => false,
         }
     }
 
     /// Whether a list, map or struct would be one too many inside one another.
-    #[tactic(auto, unfolding(crate::specs::Awaited::is_deep))]
+    #[tactic(auto, unfolding(crate::specs::MachineSteps::is_deep))]
     fn is_deep(self, kind: WireType) -> bool
         ensures { result ≡ is_deep ALL self kind }
     {
         match self {
-            Spot::Struct { room, .. } => kind.opens() && room == 0,
-            Spot::Item { room, .. } => kind.opens() && room == 0,
+            HeadContext::Struct { room, .. } => kind.opens() && room == 0,
+            HeadContext::Item { room, .. } => kind.opens() && room == 0,
             _ => false,
         }
     }
 
-    #[tactic(auto, unfolding(crate::specs::Awaited::short_fault))]
+    #[tactic(auto, unfolding(crate::specs::MachineSteps::short_fault))]
     fn short_fault(self, kind: WireType, tag: u8) -> Option<WireWhy>
         ensures { result ≡ short_fault ALL self kind tag }
     {
@@ -124,7 +124,7 @@ impl Spot {
         }
     }
 
-    #[tactic(auto, unfolding(crate::specs::Awaited::long_fault))]
+    #[tactic(auto, unfolding(crate::specs::MachineSteps::long_fault))]
     fn long_fault(self, kind: WireType) -> Option<WireWhy>
         ensures { result ≡ long_fault ALL self kind }
     {
@@ -140,7 +140,7 @@ impl Spot {
 
     /// What the first byte of a head says here, by its type and its high four bits: the type is judged
     /// first, then the tag where the byte holds it, then the depth.
-    #[tactic(auto, unfolding(crate::specs::Awaited::judged_byte))]
+    #[tactic(auto, unfolding(crate::specs::MachineSteps::judged_byte))]
     #[inline(always)]
     fn judged_byte(self, kind: WireType, high: u8) -> Result<FirstByte, WireWhy>
         ensures { result ≡ judged_byte ALL self kind high }
@@ -162,7 +162,7 @@ impl Spot {
     }
 
     /// What the first byte of a head says here.
-    #[tactic(auto, unfolding(crate::specs::Awaited::first_byte))]
+    #[tactic(auto, unfolding(crate::specs::MachineSteps::first_byte))]
     #[inline(always)]
     pub fn first_byte(self, byte: u8) -> Result<FirstByte, WireWhy>
         ensures { result ≡ first_byte ALL self byte }

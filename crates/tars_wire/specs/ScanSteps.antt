@@ -7,13 +7,13 @@ use Rattle.tars_wire.specs.declared.wire_type.WireType.TheVariants as wire
 use Rattle.tars_wire.specs.declared.wire_fault.WireWhy.{WireWhy}
 use Rattle.tars_wire.specs.declared.wire_fault.WireWhy.TheVariants as why
 use Rattle.tars_wire.specs.declared.stop.Stop.{Stop}
-use Rattle.tars_wire.specs.declared.spot.Spot.{Spot}
-use Rattle.tars_wire.specs.declared.spot.Spot.TheVariants as spot
+use Rattle.tars_wire.specs.declared.head_context.HeadContext.{HeadContext}
+use Rattle.tars_wire.specs.declared.head_context.HeadContext.TheVariants as heads
 use Rattle.tars_wire.specs.declared.head.Head.{Head}
 use Rattle.tars_wire.specs.declared.head.FirstByte.{FirstByte}
 use Rattle.tars_wire.specs.declared.head.FirstByte.TheVariants as first
 use Rattle.tars_wire.specs.Spelled.{ALL}
-use Rattle.tars_wire.specs.Awaited.{tag_fault, first_byte, Kind, of_values, of_pairs, in_struct, head_of, counted, Inside, parts, tag_of, part_step, tag_step, State, within, step, may_end}
+use Rattle.tars_wire.specs.MachineSteps.{tag_fault, first_byte, Kind, of_values, of_pairs, in_struct, head_of, counted, Inside, parts, tag_of, part_step, tag_step, State, within, step, may_end}
 
 infixl 10 ◌>>=◌
 abbrev pub ◌>>=◌ : {A B : Type 0} → Result A Stop → (A → Result B Stop) → Result B Stop
@@ -36,19 +36,19 @@ judged_tag None type tag rest = Ok (record { tag = tag; kind = type }, rest)
 judged_tag (Some fault) type tag rest = Err (stops_at (tag ∷ rest) fault)
 
 -- a tag in a byte of its own
-unfoldable pub tag_at : Spot → WireType → List ℕ → Result (Head × List ℕ) Stop
-tag_at place type [] = Err too_short
-tag_at place type (tag ∷ rest) = judged_tag (tag_fault ALL place type tag) type tag rest
+unfoldable pub tag_at : HeadContext → WireType → List ℕ → Result (Head × List ℕ) Stop
+tag_at context type [] = Err too_short
+tag_at context type (tag ∷ rest) = judged_tag (tag_fault ALL context type tag) type tag rest
 
-abbrev pub headed : Spot → Result FirstByte WireWhy → ℕ → List ℕ → Result (Head × List ℕ) Stop
-headed place (Ok (first.Whole head)) byte rest = Ok (head, rest)
-headed place (Ok (first.Long type)) byte rest = tag_at place type rest
-headed place (Err fault) byte rest = Err (stops_at (byte ∷ rest) fault)
+abbrev pub headed : HeadContext → Result FirstByte WireWhy → ℕ → List ℕ → Result (Head × List ℕ) Stop
+headed context (Ok (first.Whole head)) byte rest = Ok (head, rest)
+headed context (Ok (first.Long type)) byte rest = tag_at context type rest
+headed context (Err fault) byte rest = Err (stops_at (byte ∷ rest) fault)
 
 -- a head in either form
-unfoldable pub head_at : Spot → List ℕ → Result (Head × List ℕ) Stop
-head_at place [] = Err too_short
-head_at place (byte ∷ rest) = headed place (first_byte ALL place byte) byte rest
+unfoldable pub head_at : HeadContext → List ℕ → Result (Head × List ℕ) Stop
+head_at context [] = Err too_short
+head_at context (byte ∷ rest) = headed context (first_byte ALL context byte) byte rest
 
 -- past so many bytes
 unfoldable pub past : ℕ → List ℕ → Result (List ℕ) Stop
@@ -71,7 +71,7 @@ size_number wire.Int4 bytes = not_negative bytes >>= unsigned_at w32
 size_number _ bytes = Ok (0, bytes)
 
 unfoldable pub size_at : List ℕ → Result (ℕ × List ℕ) Stop
-size_at bytes = head_at spot.Size bytes >>= λ head. size_number head.0.kind head.1
+size_at bytes = head_at heads.Size bytes >>= λ head. size_number head.0.kind head.1
 
 -- past what is awaited inside a field
 abbrev pub reading : Inside → List ℕ → Result (List ℕ) Stop
@@ -79,9 +79,9 @@ reading (parts []) bytes = Ok bytes
 reading (parts (part ∷ below)) [] = Err too_short
 reading (parts (part ∷ below)) (byte ∷ rest) =
     elim (part_step ALL part below byte) [ Ok to ↦ reading to rest | Err fault ↦ Err (stops_at (byte ∷ rest) fault) ]
-reading (tag_of place type below) [] = Err too_short
-reading (tag_of place type below) (tag ∷ rest) =
-    elim (tag_step ALL place type below tag) [ Ok to ↦ reading to rest | Err fault ↦ Err (stops_at (tag ∷ rest) fault) ]
+reading (tag_of context type below) [] = Err too_short
+reading (tag_of context type below) (tag ∷ rest) =
+    elim (tag_step ALL context type below tag) [ Ok to ↦ reading to rest | Err fault ↦ Err (stops_at (tag ∷ rest) fault) ]
 
 -- past so many values or pairs
 unfoldable pub counted_at : Kind → ℕ → List ℕ → Result (List ℕ) Stop
@@ -95,7 +95,7 @@ unfoldable pub text_at : Width → List ℕ → Result (List ℕ) Stop
 text_at w bytes = unsigned_at w bytes >>= λ size. past size.0 size.1
 
 unfoldable pub simple_list_at : List ℕ → Result (List ℕ) Stop
-simple_list_at bytes = head_at spot.Simple bytes >>= λ head. size_at head.1 >>= λ size. past size.0 size.1
+simple_list_at bytes = head_at heads.Simple bytes >>= λ head. size_at head.1 >>= λ size. past size.0 size.1
 
 -- as much as a size counts
 unfoldable pub sized_at : Kind → List ℕ → Result (List ℕ) Stop
@@ -120,7 +120,7 @@ contents_at room wire.SimpleList bytes = simple_list_at bytes
 
 -- past an element, a key or a map's value
 unfoldable pub item_at : ℕ → ℕ → List ℕ → Result (List ℕ) Stop
-item_at tag room bytes = head_at (spot.Item tag room) bytes >>= λ head. contents_at room head.0.kind head.1
+item_at tag room bytes = head_at (heads.Item tag room) bytes >>= λ head. contents_at room head.0.kind head.1
 
 unfoldable pub pair_at : ℕ → List ℕ → Result (List ℕ) Stop
 pair_at room bytes = item_at 0 room bytes >>= item_at 1 room

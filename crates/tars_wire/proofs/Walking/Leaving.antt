@@ -10,15 +10,15 @@ use Rattle.tars_wire.specs.declared.level.Level.{Level}
 use Rattle.tars_wire.specs.declared.level.Level.TheVariants as level
 use Rattle.tars_wire.specs.declared.stop.Stop.{Stop}
 use Rattle.tars_wire.specs.Heads.{opens, Head, short, long}
-use Rattle.tars_wire.specs.Reading.{contents_at}
+use Rattle.tars_wire.specs.ScanSteps.{contents_at}
 use Rattle.tars_wire.specs.Left.{Remaining, fields_left, values_left, pairs_left, value_left, next_field, behind_next, type_of_value, head_in, LevelLeft}
-use Rattle.tars_wire.specs.Pieces.{head_front, less, HasMore}
+use Rattle.tars_wire.specs.PrefixSteps.{head_front, less, HasMore}
 use Rattle.tars_wire.specs.Spelled.{ALL}
-use Rattle.tars_wire.proofs.Forms.{room_left}
-use Rattle.tars_wire.proofs.Fronts.{head_front_is, contents_complete}
-use Rattle.tars_wire.proofs.ReadingLaws.{contents_not_longer}
-use Rattle.tars_wire.proofs.OneField.{OneField, AtEnd, OneOf, one_of}
-use Rattle.tars_wire.proofs.Turns.{found_first, found_second}
+use Rattle.tars_wire.proofs.Machine.Forms.{room_left}
+use Rattle.tars_wire.proofs.Walking.Prefixes.{head_front_is, contents_complete}
+use Rattle.tars_wire.proofs.Scanning.Remainders.{contents_not_longer}
+use Rattle.tars_wire.proofs.Walking.OneField.{OneField, AtEnd, OneOf, one_of}
+use Rattle.tars_wire.proofs.Walking.Turns.{found_first, found_second}
 
 false_true : false ≡ true → ⊥
 false_true e = cc

@@ -6,7 +6,7 @@ use Rattle.tars_wire.specs.declared.wire_type.WireType.{WireType}
 use Rattle.tars_wire.specs.declared.wire_type.WireType.TheVariants as wire
 use Rattle.tars_wire.specs.Heads.{Head, is_end}
 use Rattle.tars_wire.specs.Spelled.{Rules, Bytes, no_bytes, byte, signed, Number, is_zero_tag, is_int1, is_int2, is_int4, is_int8, IsSize, Size, ContentsBy, Contents, is_whole, is_float, is_double, is_string1, is_string4, is_simple_list, is_list, is_map, is_struct, Values, no_more_values, one_value, Pairs, no_more_pairs, one_pair, Fields, no_more_fields, one_field}
-use Rattle.tars_wire.proofs.HeadLemmas.{same_head, by_head}
+use Rattle.tars_wire.proofs.Grammar.Heads.{same_head, by_head}
 
 -- two readings of the same bytes are one
 pub record Same {X : Type 0} (a b : X) (rest rest' : List ℕ) : Type 0 where

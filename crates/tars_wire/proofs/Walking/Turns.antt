@@ -9,13 +9,13 @@ use Rattle.tars_wire.specs.declared.level.Level.{Level}
 use Rattle.tars_wire.specs.declared.stop.Stop.{Stop}
 use Rattle.tars_wire.specs.Heads.{opens}
 use Rattle.tars_wire.specs.Spelled.{ALL, Contents, is_whole, is_float, is_double, is_string1, is_string4, is_simple_list, is_list, is_map, is_struct}
-use Rattle.tars_wire.specs.Reading.{contents_at}
+use Rattle.tars_wire.specs.ScanSteps.{contents_at}
 use Rattle.tars_wire.specs.Left.{Remaining, type_of_number, type_of_value, value_of_number, number_in, text_in, simple_in, is_number_type, is_text_type, is_simple_type, next_of, head_left, skipped, of_next, Left, Standing, IsLeft}
-use Rattle.tars_wire.specs.Pieces.{simple_front, text_front, head_front, number_front, less}
-use Rattle.tars_wire.proofs.Forms.{room_left}
-use Rattle.tars_wire.proofs.Fronts.{simple_front_is, text_front_is, number_front_is, contents_complete}
-use Rattle.tars_wire.proofs.Walks.{left_same}
-use Rattle.tars_wire.proofs.OneField.{Turn, turn}
+use Rattle.tars_wire.specs.PrefixSteps.{simple_front, text_front, head_front, number_front, less}
+use Rattle.tars_wire.proofs.Machine.Forms.{room_left}
+use Rattle.tars_wire.proofs.Walking.Prefixes.{simple_front_is, text_front_is, number_front_is, contents_complete}
+use Rattle.tars_wire.proofs.Walking.OneReading.{left_same}
+use Rattle.tars_wire.proofs.Walking.OneField.{Turn, turn}
 
 false_true : false ≡ true → ⊥
 false_true e = cc

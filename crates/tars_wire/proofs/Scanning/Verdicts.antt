@@ -5,17 +5,17 @@ use Rattle.longest_front.specs.Machine.{Course, taken, stopped, one_later, ended
 use Rattle.tars_wire.specs.declared.wire_fault.WireWhy.{WireWhy}
 use Rattle.tars_wire.specs.declared.wire_fault.WireWhy.TheVariants as why
 use Rattle.tars_wire.specs.declared.stop.Stop.{Stop}
-use Rattle.tars_wire.specs.declared.spot.Spot.TheVariants as spot
+use Rattle.tars_wire.specs.declared.head_context.HeadContext.TheVariants as heads
 use Rattle.tars_wire.specs.declared.head.FirstByte.{FirstByte}
 use Rattle.tars_wire.specs.declared.head.FirstByte.TheVariants as first
 use Rattle.tars_wire.specs.Heads.{MAX_DEPTH}
 use Rattle.tars_wire.specs.Spelled.{IsBody, ALL}
-use Rattle.tars_wire.specs.Awaited.{tag_fault, unless, first_byte, contents, Inside, parts, tag_of, part_step, tag_step, State, within, lift_step, body_step, step, may_end, START}
-use Rattle.tars_wire.specs.Reading.{◌>>=◌, too_short, stops_at, judged_tag, tag_at, headed, head_at, reading, contents_at, judging, body_at}
-use Rattle.tars_wire.proofs.Steps.{IsByte}
-use Rattle.tars_wire.proofs.FaultLaws.{OneFault, end_is_body, stop_is_fault}
-use Rattle.tars_wire.proofs.Readings.{bind_ok, bind_same, reading_contents}
-use Rattle.tars_wire.proofs.ReadingLaws.{Facts}
+use Rattle.tars_wire.specs.MachineSteps.{tag_fault, unless, first_byte, contents, Inside, parts, tag_of, part_step, tag_step, State, within, lift_step, body_step, step, may_end, START}
+use Rattle.tars_wire.specs.ScanSteps.{◌>>=◌, too_short, stops_at, judged_tag, tag_at, headed, head_at, reading, contents_at, judging, body_at}
+use Rattle.tars_wire.proofs.Machine.Steps.{IsByte}
+use Rattle.tars_wire.proofs.Machine.Faults.{OneFault, end_is_body, stop_is_fault}
+use Rattle.tars_wire.proofs.Scanning.Readings.{bind_ok, bind_same, reading_contents}
+use Rattle.tars_wire.proofs.Scanning.Remainders.{Facts}
 
 -- how a course ends, by what is left
 abbrev pub course : ℕ → Result (List ℕ) Stop → Course WireWhy
@@ -67,17 +67,17 @@ judging_inside : (inside : Inside) (from : ℕ) (w : List ℕ) → judging (with
 judging_inside (parts []) from w = refl
 judging_inside (parts (part ∷ below)) from [] = refl
 judging_inside (parts (part ∷ below)) from (byte ∷ rest) = lifted from byte rest (part_step ALL part below byte) (λ to. judging_inside to from rest)
-judging_inside (tag_of place type below) from [] = refl
-judging_inside (tag_of place type below) from (tag ∷ rest) = lifted from tag rest (tag_step ALL place type below tag) (λ to. judging_inside to from rest)
+judging_inside (tag_of context type below) from [] = refl
+judging_inside (tag_of context type below) from (tag ∷ rest) = lifted from tag rest (tag_step ALL context type below tag) (λ to. judging_inside to from rest)
 
 -- the head of a field of the body
 body_goes : (from byte : ℕ) (rest : List ℕ) (r : Result FirstByte WireWhy)
     → elim (body_step from r) [ Ok to ↦ judging to rest | Err fault ↦ Err (stops_at (byte ∷ rest) fault) ]
-    ≡ headed (spot.Body from) r byte rest >>= (λ h. judging (within (parts (contents MAX_DEPTH h.0.kind [])) (h.0.tag + 1)) h.1)
+    ≡ headed (heads.Body from) r byte rest >>= (λ h. judging (within (parts (contents MAX_DEPTH h.0.kind [])) (h.0.tag + 1)) h.1)
 unfolding tag_at
 body_goes from byte rest (Ok (first.Whole head)) = refl
 body_goes from byte [] (Ok (first.Long type)) = refl
-body_goes from byte (tag ∷ rest) (Ok (first.Long type)) = go (tag_fault ALL (spot.Body from) type tag)
+body_goes from byte (tag ∷ rest) (Ok (first.Long type)) = go (tag_fault ALL (heads.Body from) type tag)
   where
     go : (f : Option WireWhy) → elim (unless f (within (parts (contents MAX_DEPTH type [])) (tag + 1))) [ Ok to ↦ judging to rest | Err fault ↦ Err (stops_at (tag ∷ rest) fault) ]
         ≡ judged_tag f type tag rest >>= (λ h. judging (within (parts (contents MAX_DEPTH h.0.kind [])) (h.0.tag + 1)) h.1)
@@ -89,11 +89,11 @@ pub body_ends : (from : ℕ) → body_at from [] ≡ Ok []
 unfolding body_at
 body_ends from = refl
 
-pub one_body_field : (from byte : ℕ) (rest : List ℕ) → body_at from (byte ∷ rest) ≡ head_at (spot.Body from) (byte ∷ rest) >>= (λ h. contents_at MAX_DEPTH h.0.kind h.1 >>= body_at (h.0.tag + 1))
+pub one_body_field : (from byte : ℕ) (rest : List ℕ) → body_at from (byte ∷ rest) ≡ head_at (heads.Body from) (byte ∷ rest) >>= (λ h. contents_at MAX_DEPTH h.0.kind h.1 >>= body_at (h.0.tag + 1))
 unfolding body_at head_at
 one_body_field from byte rest =
-    body_goes from byte rest (first_byte ALL (spot.Body from) byte)
-    ∙ bind_same (headed (spot.Body from) (first_byte ALL (spot.Body from) byte) byte rest) (λ h. judging (within (parts (contents MAX_DEPTH h.0.kind [])) (h.0.tag + 1)) h.1) (λ h. contents_at MAX_DEPTH h.0.kind h.1 >>= body_at (h.0.tag + 1))
+    body_goes from byte rest (first_byte ALL (heads.Body from) byte)
+    ∙ bind_same (headed (heads.Body from) (first_byte ALL (heads.Body from) byte) byte rest) (λ h. judging (within (parts (contents MAX_DEPTH h.0.kind [])) (h.0.tag + 1)) h.1) (λ h. contents_at MAX_DEPTH h.0.kind h.1 >>= body_at (h.0.tag + 1))
     (λ h. judging_inside (parts (contents MAX_DEPTH h.0.kind [])) (h.0.tag + 1) h.1
     ∙ ap (λ r. r >>= (λ v. judging (within (parts []) (h.0.tag + 1)) v)) (reading_contents MAX_DEPTH h.0.kind [] h.1 ∙ bind_ok (contents_at MAX_DEPTH h.0.kind h.1)))
 

@@ -8,8 +8,8 @@ use Rattle.wire_words.specs.Tree.{WireNumber, zero_tag, int1, int2, int4, WireVa
 use Rattle.tars_wire.specs.declared.wire_type.WireType.{WireType}
 use Rattle.tars_wire.specs.declared.wire_type.WireType.TheVariants as wire
 use Rattle.tars_wire.specs.Spelled.{Rules, Bytes, no_bytes, byte, signed, Number, is_zero_tag, is_int1, is_int2, is_int4, is_int8, at_least_0, CountsAs, IsSizeBy, ValuesBy, no_more_values, one_value, PairsBy, no_more_pairs, one_pair}
-use Rattle.tars_wire.specs.Awaited.{is_size, Kind, of_bytes, of_values, of_pairs, Part, counted, size_bytes}
-use Rattle.tars_wire.proofs.Meaning.{Run, Counted, Later, Parts}
+use Rattle.tars_wire.specs.MachineSteps.{is_size, Kind, of_bytes, of_values, of_pairs, Part, counted, size_bytes}
+use Rattle.tars_wire.proofs.Machine.Meaning.{Run, Counted, Later, Parts}
 
 -- so many bytes that are spelled
 pub run_there : {bytes w rest : List ℕ} → Bytes bytes w rest → (n : ℕ) → length bytes ≡ n → (After : List ℕ → Type 0) → After rest → Run n w After
