@@ -9,7 +9,7 @@ use Rattle.tars_wire.specs.declared.head_context.HeadContext.{HeadContext}
 use Rattle.tars_wire.specs.declared.head_context.HeadContext.TheVariants as heads
 use Rattle.tars_wire.specs.declared.head.FirstByte.{FirstByte}
 use Rattle.tars_wire.specs.declared.head.FirstByte.TheVariants as first
-use Rattle.tars_wire.specs.Heads.{MAX_DEPTH, type_of, opens, is_end}
+use Rattle.tars_wire.specs.Heads.{MAX_DEPTH, MAX_TAG, LONG_HEAD, type_of, opens, is_end}
 use Rattle.tars_wire.specs.Spelled.{Rules}
 
 -- the types of a size
@@ -39,7 +39,7 @@ takes heads.Simple type = is_int1 type
 -- A tag is not below `from`, where rising tags are kept. The last tag of all is judged at the head's first
 -- byte (`is_full`).
 abbrev pub order_fault : Bool → ℕ → ℕ → Option WireWhy
-order_fault true from tag = if nat_le from tag || tag == 255 then None else Some why.Order
+order_fault true from tag = if nat_le from tag || tag == MAX_TAG then None else Some why.Order
 order_fault false from tag = None
 
 -- the tag is this one, where fixed tags are kept
@@ -57,8 +57,8 @@ tag_fault rules heads.Simple type tag = wrong_tag rules.fixed_tags 0 tag
 
 -- after tag 255 no tag is left for a field
 unfoldable pub is_full : Rules → HeadContext → WireType → Bool
-is_full rules (heads.Body from) type = rules.rising_tags && nat_lt 255 from
-is_full rules (heads.Struct from room) type = not (is_end type) && (rules.rising_tags && nat_lt 255 from)
+is_full rules (heads.Body from) type = rules.rising_tags && nat_lt MAX_TAG from
+is_full rules (heads.Struct from room) type = not (is_end type) && (rules.rising_tags && nat_lt MAX_TAG from)
 is_full rules _ type = false
 
 -- then the depth
@@ -91,7 +91,7 @@ long_fault rules context type = if is_full rules context type then Some why.Orde
 unfoldable pub judged_byte : Rules → HeadContext → WireType → ℕ → Result FirstByte WireWhy
 judged_byte rules context type high =
     if takes context type
-    then (if high == 15 then unless (long_fault rules context type) (first.Long type) else unless (short_fault rules context type high) (first.Whole (record { tag = high; kind = type })))
+    then (if high == LONG_HEAD then unless (long_fault rules context type) (first.Long type) else unless (short_fault rules context type high) (first.Whole (record { tag = high; kind = type })))
     else Err why.BadType
 
 abbrev pub typed_byte : Rules → HeadContext → Option WireType → ℕ → Result FirstByte WireWhy

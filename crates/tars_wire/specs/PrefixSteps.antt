@@ -1,17 +1,22 @@
--- Pieces at the front of bytes in which they are known to stand, as the code reads them.
-use Rattle.std.specs.Prelude.{◌<◌, ◌^◌, ◌-◌, ◌*◌, ◌/◌, ◌%◌, ℕ, nat_lt, if◌then◌else◌, ℤ, pos, negsuc, List, [], ◌∷◌, length, take, drop, Option, Some, None, Bool, false, ◌==◌}
+-- Pieces at the front of bytes, as the private functions find them; for those and the proofs alone.
+use Rattle.std.specs.Prelude.{◌≡◌, ◌<◌, ◌^◌, ◌-◌, ◌*◌, ◌/◌, ◌%◌, ℕ, nat_lt, if◌then◌else◌, ℤ, pos, negsuc, List, [], ◌∷◌, length, take, drop, Option, Some, None, Bool, false, ◌==◌}
 use Rattle.std.specs.Int.{Width, w8, w16, w32, w64, byte_len, from_be_bytes, cast_signed}
 use Rattle.tars_wire.specs.declared.wire_type.WireType.{WireType}
 use Rattle.tars_wire.specs.declared.wire_type.WireType.TheVariants as wire
 use Rattle.tars_wire.specs.declared.head.Head.{Head}
 use Rattle.tars_wire.specs.declared.level.Level.{Level}
 use Rattle.tars_wire.specs.declared.level.Level.TheVariants as level
-use Rattle.tars_wire.specs.Heads.{type_of}
+use Rattle.tars_wire.specs.Heads.{LONG_HEAD, type_of}
 
 infixl 10 ◌>>=◌
 abbrev pub ◌>>=◌ : {A B : Type 0} → Option A → (A → Option B) → Option B
 None >>= f = None
 (Some x) >>= f = f x
+
+-- a function found, seen by view, what stands there
+abbrev pub Found : {X Y : Type 0} → (X → Y) → Option X → Option Y → Type 0
+Found view None found = found ≡ None
+Found view (Some x) found = found ≡ Some (view x)
 
 abbrev pub long_front : WireType → List ℕ → Option (Head × List ℕ)
 long_front type [] = None
@@ -19,7 +24,7 @@ long_front type (tag ∷ rest) = Some (record { tag = tag; kind = type }, rest)
 
 abbrev pub typed_front : Option WireType → ℕ → List ℕ → Option (Head × List ℕ)
 typed_front None high rest = None
-typed_front (Some type) high rest = if nat_lt high 15 then Some (record { tag = high; kind = type }, rest) else long_front type rest
+typed_front (Some type) high rest = if nat_lt high LONG_HEAD then Some (record { tag = high; kind = type }, rest) else long_front type rest
 
 -- a head in either form
 unfoldable pub head_front : List ℕ → Option (Head × List ℕ)

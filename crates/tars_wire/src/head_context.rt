@@ -2,21 +2,15 @@ ghost use Rattle.std.specs.Prelude.{◌≡◌, ◌<◌, true};
 ghost use Rattle.tars_wire.specs.Spelled.{ALL};
 ghost use Rattle.tars_wire.specs.MachineSteps.{order_fault, wrong_tag, takes, tag_fault, is_full, is_deep, short_fault, long_fault, judged_byte, first_byte};
 
-use crate::head::{FirstByte, Head};
+use crate::head::{FirstByte, Head, LAST_TAG, LONG_FORM, halves};
 use crate::wire_fault::WireWhy;
 use crate::wire_type::WireType;
 
 /// How many lists, maps and structs may stand inside one another.
 pub const MAX_OPEN: u8 = 64;
 
-/// The high four bits of a head whose tag is in a byte of its own.
-pub const LONG_FORM: u8 = 15;
-
-/// The highest tag.
-pub const LAST_TAG: u8 = 255;
-
 /// Where a head is read, and so which types and tags may stand there.
-#[derive(Clone, Copy, Debug, PartialEq, Eq)]
+#[derive(Clone, Copy)]
 pub enum HeadContext {
     /// A field of the body, with a tag of at least this.
     Body { from: u16 },
@@ -167,9 +161,10 @@ impl HeadContext {
     pub fn first_byte(self, byte: u8) -> Result<FirstByte, WireWhy>
         ensures { result ≡ first_byte ALL self byte }
     {
-        match WireType::from_code(byte % 16) {
+        let (kind, high) = halves(byte);
+        match kind {
             None => Err(WireWhy::BadType),
-            Some(kind) => self.judged_byte(kind, byte / 16),
+            Some(kind) => self.judged_byte(kind, high),
         }
     }
 }

@@ -3,19 +3,20 @@
 ghost use Rattle.std.specs.Prelude.{◌⊎◌, ◌≡◌, ◌<◌, ◌↔◌, ℕ, List, [], ◌++◌, length, All};
 ghost use Rattle.tars_wire.specs.declared.wire_fault.WireFault.{WireFault};
 ghost use Rattle.tars_wire.specs.Faults.{IsFault, HasFault};
-ghost use Rattle.tars_wire.specs.Heads.{MAX_DEPTH};
+ghost use Rattle.tars_wire.specs.Heads.{MAX_DEPTH, MAX_TAG, LONG_HEAD};
 ghost use Rattle.wire_words.specs.Tree.{WireValue, WireFields};
 ghost use Rattle.tars_wire.specs.Spelled.{IsBody, Spelled, SpelledField};
 ghost use Rattle.tars_wire.specs.Left.{Standing, Remaining, IsLeft};
 
-use crate::head_context::{LAST_TAG, LONG_FORM, MAX_OPEN};
+use crate::head::{LAST_TAG, LONG_FORM};
+use crate::head_context::MAX_OPEN;
 use crate::wire_fault::WireWhy;
 
 /// The limits, as numbers.
 pub fn limits()
     ensures depth { (MAX_OPEN ≡ 64) × (MAX_DEPTH ≡ 64) }
-    ensures long_form { LONG_FORM ≡ 15 }
-    ensures last_tag { LAST_TAG ≡ 255 }
+    ensures long_form { (LONG_FORM ≡ 15) × (LONG_HEAD ≡ 15) }
+    ensures last_tag { (LAST_TAG ≡ 255) × (MAX_TAG ≡ 255) }
 {}
 
 /// Bytes spell one list of fields at most.

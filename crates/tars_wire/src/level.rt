@@ -2,7 +2,7 @@ ghost use Rattle.std.specs.Prelude.{◌≡◌};
 ghost use Rattle.tars_wire.specs.PrefixSteps.{less, HasMore, is_over};
 
 /// What is open around the next field, and how many fields of a list or a map are left there.
-#[derive(Clone, Copy, Debug, PartialEq, Eq)]
+#[derive(Clone, Copy)]
 pub enum Level {
     Body,
     Struct,

@@ -10,6 +10,7 @@ mod head;
 mod head_context;
 mod laws;
 mod level;
+mod prefix;
 mod scanner;
 mod stop;
 mod wire_fault;

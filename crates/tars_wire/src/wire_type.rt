@@ -58,34 +58,23 @@ impl WireType {
     pub fn opens(self) -> bool
         ensures { result ≡ opens self }
     {
-        match self {
-            WireType::Map => true,
-            WireType::List => true,
-            WireType::StructBegin => true,
-            _ => false,
-        }
+        matches!(self, WireType::Map | WireType::List | WireType::StructBegin)
     }
 
     /// Whether a size may be of this type.
     pub fn is_size(self) -> bool
         ensures { result ≡ is_size self }
     {
-        match self {
-            WireType::Int1 => true,
-            WireType::Int2 => true,
-            WireType::Int4 => true,
-            WireType::ZeroTag => true,
-            _ => false,
-        }
+        matches!(
+            self,
+            WireType::ZeroTag | WireType::Int1 | WireType::Int2 | WireType::Int4
+        )
     }
 
     /// Whether it ends a struct, and is no field.
     pub fn is_end(self) -> bool
         ensures { result ≡ is_end self }
     {
-        match self {
-            WireType::StructEnd => true,
-            _ => false,
-        }
+        matches!(self, WireType::StructEnd)
     }
 }

@@ -1,5 +1,5 @@
 -- What reading from left to right gives is what the steps give.
-use Rattle.std.proofs.Common.{◌≡◌, ℕ, zero, suc, ◌+◌, ◌-◌, ◌*◌, Bool, true, false, cond, ltb, List, [], ◌∷◌, ◌++◌, length, Option, Some, None, Result, Ok, Err, refl, sym, ap, ◌∙◌, arith}
+use Rattle.std.proofs.Common.{◌≡◌, ℕ, zero, suc, ◌+◌, ◌-◌, ◌*◌, Bool, true, false, cond, ltb, List, [], ◌∷◌, ◌++◌, length, Option, Some, None, Result, Ok, Err, refl, sym, ap, ◌∙◌, arith, take, drop}
 use Rattle.std.specs.Int.{Width, w8, w16, w32}
 use Rattle.std.proofs.lemmas.Bool.{lt-ltb, le-ltb}
 use Rattle.std.proofs.lemmas.Bool.Decides.{nat_tests}
@@ -14,7 +14,8 @@ use Rattle.tars_wire.specs.declared.head.FirstByte.TheVariants as first
 use Rattle.tars_wire.specs.Heads.{is_end}
 use Rattle.tars_wire.specs.Spelled.{ALL}
 use Rattle.tars_wire.specs.MachineSteps.{tag_fault, unless, first_byte, Kind, of_bytes, of_values, of_pairs, Context, in_struct, an_element, a_key, its_value, a_size, simple_head, head_context, Part, raw, size_first, size_later, head_of, counted, contents, size_bytes, after, Inside, parts, tag_of, head_step, part_step, tag_step}
-use Rattle.tars_wire.specs.ScanSteps.{◌>>=◌, too_short, stops_at, judged_tag, tag_at, headed, head_at, past, unsigned_at, not_negative, size_number, size_at, reading, counted_at, fields_at, text_at, simple_list_at, sized_at, contents_at, item_at, pair_at}
+use Rattle.tars_wire.specs.PrefixSteps.{bytes_front, unsigned_front}
+use Rattle.tars_wire.specs.ScanSteps.{or_short, ◌>>=◌, too_short, stops_at, judged_tag, tag_at, headed, head_at, past, unsigned_at, not_negative, size_number, size_at, reading, counted_at, fields_at, text_at, simple_list_at, sized_at, contents_at, item_at, pair_at}
 
 pub bind_assoc : {A B C : Type 0} (r : Result A Stop) (f : A → Result B Stop) (g : B → Result C Stop) → (r >>= f) >>= g ≡ r >>= (λ x. f x >>= g)
 bind_assoc (Ok x) f g = refl
@@ -53,15 +54,19 @@ ltb_suc : (a b : ℕ) → ltb (suc a) (suc b) ≡ ltb a b
 ltb_suc a b = grind (arith, nat_tests)
 
 past_zero : (w : List ℕ) → past 0 w ≡ Ok w
-unfolding past
+unfolding past bytes_front
 past_zero w = rw (le-ltb (length w) 0 (omega arith)) refl
 
 past_more : (n b : ℕ) (w : List ℕ) → past (suc n) (b ∷ w) ≡ past n w
-unfolding past
-past_more n b w = rw (ltb_suc (length w) n) refl
+unfolding past bytes_front
+past_more n b w = rw (ltb_suc (length w) n) (go (ltb (length w) n))
+  where
+    go : (t : Bool) → or_short (λ (x : List ℕ × List ℕ). x.1) (cond t None (Some (b ∷ take n w, drop n w))) ≡ or_short (λ (x : List ℕ × List ℕ). x.1) (cond t None (Some (take n w, drop n w)))
+    go true = refl
+    go false = refl
 
 past_short : (n : ℕ) → past (suc n) [] ≡ Err too_short
-unfolding past
+unfolding past bytes_front
 past_short n = rw (lt-ltb 0 (suc n) (omega arith)) refl
 
 pub reading_raw : (n : ℕ) (below : List Part) (w : List ℕ) → reading (parts (raw n ∷ below)) w ≡ past (suc n) w >>= (λ v. reading (parts below) v)
@@ -108,18 +113,18 @@ ok_pair : (m n : ℕ) (w : List ℕ) → m ≡ n → (let r : Result (ℕ × Lis
 ok_pair m n w e = ap (λ k. Ok (k, w)) e
 
 first_byte_number : (w : List ℕ) → first_at 0 w ≡ unsigned_at w8 w
-unfolding unsigned_at
+unfolding unsigned_at unsigned_front bytes_front
 first_byte_number [] = refl
 first_byte_number (b ∷ w) = rw (le-ltb (suc (length w)) 1 (omega arith)) refl
 
 first_two : (w : List ℕ) → first_at 1 w ≡ unsigned_at w16 w
-unfolding unsigned_at
+unfolding unsigned_at unsigned_front bytes_front
 first_two [] = refl
 first_two (b ∷ []) = refl
 first_two (b ∷ c ∷ w) = rw (le-ltb (suc (suc (length w))) 2 (omega arith)) (ok_pair _ _ w (omega arith))
 
 first_four : (w : List ℕ) → first_at 3 w ≡ unsigned_at w32 w
-unfolding unsigned_at
+unfolding unsigned_at unsigned_front bytes_front
 first_four [] = refl
 first_four (b ∷ []) = refl
 first_four (b ∷ c ∷ []) = refl

@@ -6,7 +6,7 @@ ghost use Rattle.tars_wire.specs.ScanSteps.{Gives, body_at};
 use super::contents::past_contents;
 use super::heads::read_head;
 use crate::checked::Checked;
-use crate::head_context::{MAX_OPEN, HeadContext};
+use crate::head_context::{HeadContext, MAX_OPEN};
 use crate::stop::Stop;
 use crate::wire_fault::WireFault;
 

@@ -4,17 +4,17 @@ ghost use Rattle.tars_wire.specs.ScanSteps.{Gives, past, unsigned_at, not_negati
 
 use super::heads::read_head;
 use crate::head_context::HeadContext;
+use crate::prefix::{split_bytes, split_u8, split_u16, split_u32};
 use crate::stop::{SHORT, Stop};
 use crate::wire_fault::WireWhy;
 use crate::wire_type::WireType;
-use byteorder::{BigEndian, ByteOrder};
 
 /// Past so many bytes.
 #[tactic(auto, unfolding(crate::specs::ScanSteps::past))]
 pub fn past(count: usize, bytes: &[u8]) -> Result<&[u8], Stop>
     ensures { Gives (λ x. x.now) result (past count bytes.now) }
 {
-    match bytes.split_at_checked(count) {
+    match split_bytes(count, bytes) {
         Some((_, rest)) => Ok(rest),
         None => Err(SHORT),
     }
@@ -24,9 +24,9 @@ pub fn past(count: usize, bytes: &[u8]) -> Result<&[u8], Stop>
 pub fn read_u8(bytes: &[u8]) -> Result<(usize, &[u8]), Stop>
     ensures { Gives (λ x. (x.0, x.1.now)) result (unsigned_at w8 bytes.now) }
 {
-    match bytes {
-        [number, rest @ ..] => Ok((usize::from(*number), rest)),
-        [] => Err(SHORT),
+    match split_u8(bytes) {
+        Some((number, rest)) => Ok((usize::from(number), rest)),
+        None => Err(SHORT),
     }
 }
 
@@ -34,8 +34,8 @@ pub fn read_u8(bytes: &[u8]) -> Result<(usize, &[u8]), Stop>
 fn read_u16(bytes: &[u8]) -> Result<(usize, &[u8]), Stop>
     ensures { Gives (λ x. (x.0, x.1.now)) result (unsigned_at w16 bytes.now) }
 {
-    match bytes.split_at_checked(2) {
-        Some((number, rest)) => Ok((usize::from(BigEndian::read_u16(number)), rest)),
+    match split_u16(bytes) {
+        Some((number, rest)) => Ok((usize::from(number), rest)),
         None => Err(SHORT),
     }
 }
@@ -44,8 +44,8 @@ fn read_u16(bytes: &[u8]) -> Result<(usize, &[u8]), Stop>
 pub fn read_u32(bytes: &[u8]) -> Result<(usize, &[u8]), Stop>
     ensures { Gives (λ x. (x.0, x.1.now)) result (unsigned_at w32 bytes.now) }
 {
-    match bytes.split_at_checked(4) {
-        Some((number, rest)) => Ok((BigEndian::read_u32(number) as usize, rest)),
+    match split_u32(bytes) {
+        Some((number, rest)) => Ok((number as usize, rest)),
         None => Err(SHORT),
     }
 }
