@@ -1,3 +1,4 @@
+pub mod TestLemmas
 pub mod Grammar
 pub mod Machine
 pub mod Scanning

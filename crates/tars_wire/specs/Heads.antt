@@ -1,7 +1,8 @@
 -- Heads (docs/PROTOCOL.md, "Heads", "Contents").
-use Rattle.std.specs.Prelude.{◌≡◌, ◌<◌, ℕ, ◌+◌, ◌*◌, Bool, true, false, List, ◌∷◌, Option, Some, None, ◌==◌, if◌then◌else◌}
+use Rattle.std.specs.Prelude.{◌≡◌, ◌<◌, ℕ, ◌+◌, ◌*◌, Bool, true, false, List, ◌∷◌, Option, Some, None, Result, MatchResult, ◌==◌, if◌then◌else◌}
 use Rattle.tars_wire.specs.declared.wire_type.WireType.{WireType}
 use Rattle.tars_wire.specs.declared.wire_type.WireType.TheVariants as wire
+use Rattle.tars_wire.specs.declared.wire_type.UnknownType.{UnknownType}
 
 -- how many lists, maps and structs may stand inside one another
 abbrev pub MAX_DEPTH : ℕ
@@ -33,6 +34,10 @@ type_of code =
     else (if code == 12 then Some wire.ZeroTag
     else (if code == 13 then Some wire.SimpleList
     else None)))))))))))))
+
+-- the result is the type with this code, or an error with a code that no type has
+abbrev pub Decodes : ℕ → Result WireType UnknownType → Type 0
+Decodes code r = MatchResult r (λ type. type_of code ≡ Some type) (λ unknown. (unknown.0 ≡ code) × (type_of code ≡ None))
 
 abbrev pub code_of : WireType → ℕ
 code_of wire.Int1 = 0

@@ -30,5 +30,5 @@ pub fn halves(byte: u8) -> (Option<WireType>, u8)
     ensures low { result.0 ≡ type_of (byte % 16) }
     ensures high { result.1 ≡ byte / 16 }
 {
-    (WireType::from_code(byte % 16), byte / 16)
+    (WireType::try_from(byte % 16).ok(), byte / 16)
 }

@@ -25,4 +25,4 @@ pub use laws::{
 };
 pub use scanner::scan;
 pub use wire_fault::{WireFault, WireWhy};
-pub use wire_type::WireType;
+pub use wire_type::{UnknownType, WireType};

@@ -1,9 +1,9 @@
 -- Heads: a code has one type, and bytes begin with one head at most.
 use Rattle.std.proofs.Common.{◌⊎◌, inl, inr, ◌≡◌, ◌<◌, ℕ, Bool, true, false, cond, eqb, List, Option, Some, None, refl, sym, ap, ◌∙◌, subst, arith, lit<}
-use Rattle.std.proofs.lemmas.Bool.Decides.{nat_tests}
 use Rattle.tars_wire.specs.declared.wire_type.WireType.{WireType}
 use Rattle.tars_wire.specs.declared.wire_type.WireType.TheVariants as wire
 use Rattle.tars_wire.specs.Heads.{type_of, code_of, Head, short, long}
+use Rattle.tars_wire.proofs.TestLemmas.{eqb_fact}
 
 pub type_of-code_of : (type : WireType) → type_of (code_of type) ≡ Some type
 unfolding type_of
@@ -46,10 +46,6 @@ none_some b e = cc
 
 pub code_same : (a b : WireType) → code_of a ≡ code_of b → a ≡ b
 code_same a b e = some_same a b (sym (type_of-code_of a) ∙ (ap type_of e ∙ type_of-code_of b))
-
--- a test that a number is another, with the fact
-eqb_fact : (m n : ℕ) → eqb m n ≡ true → m ≡ n
-eqb_fact m n e = grind (arith, nat_tests)
 
 chosen : (b : Bool) (x y : Option WireType) (z : WireType) → cond b x y ≡ Some z → ((b ≡ true) × (x ≡ Some z)) ⊎ ((b ≡ false) × (y ≡ Some z))
 chosen true x y z e = inl (refl, e)

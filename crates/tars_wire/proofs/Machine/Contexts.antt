@@ -12,6 +12,7 @@ use Rattle.tars_wire.proofs.Grammar.Unique.{not_end}
 use Rattle.tars_wire.proofs.Machine.Meaning.{InContext, Parts, Form, Body, body_behind}
 use Rattle.tars_wire.proofs.Machine.Counts.{counted_there, counted_back, size_there, size_back}
 use Rattle.tars_wire.proofs.Machine.Forms.{room_left, contents_there, contents_back, head_fits, above, not_last, from_order, tag_there, tag_back}
+use Rattle.tars_wire.proofs.TestLemmas.{false_true}
 
 -- what is behind a head in a context
 abbrev pub Behind : Rules → Context → List Part → (List ℕ → Type 0) → WireType → ℕ → List ℕ → Type 0
@@ -109,9 +110,6 @@ context_form rules (a_size kind) w below After x =
 context_form rules simple_head w below After x =
     let at = tag_there rules.fixed_tags x.1 in
     record { type = wire.Int1; tag = at.tag; rest = x.0; head = at.head; taken = refl; tag_fits = at.fits; not_full = refl; not_deep = refl; behind = x.2 }
-
-false_true : false ≡ true → ⊥
-false_true e = cc
 
 end_type : (type : WireType) → is_end type ≡ true → type ≡ wire.StructEnd
 end_type wire.Int1 e = absurd (false_true e)

@@ -10,6 +10,7 @@ use Rattle.tars_wire.specs.declared.wire_type.WireType.TheVariants as wire
 use Rattle.tars_wire.specs.Spelled.{Rules, Bytes, no_bytes, byte, signed, Number, is_zero_tag, is_int1, is_int2, is_int4, is_int8, at_least_0, CountsAs, IsSizeBy, ValuesBy, no_more_values, one_value, PairsBy, no_more_pairs, one_pair}
 use Rattle.tars_wire.specs.MachineSteps.{is_size, Kind, of_bytes, of_values, of_pairs, Part, counted, size_bytes}
 use Rattle.tars_wire.proofs.Machine.Meaning.{Run, Counted, Later, Parts}
+use Rattle.tars_wire.proofs.TestLemmas.{false_true}
 
 -- so many bytes that are spelled
 pub run_there : {bytes w rest : List ℕ} → Bytes bytes w rest → (n : ℕ) → length bytes ≡ n → (After : List ℕ → Type 0) → After rest → Run n w After
@@ -95,9 +96,6 @@ nothing_back : (rules : Rules) (kind : Kind) (w : List ℕ) (below : List Part) 
 nothing_back rules of_bytes w below After c = c
 nothing_back rules (of_values room) w below After c = counted_back rules (of_values room) 0 w below After c
 nothing_back rules (of_pairs room) w below After c = counted_back rules (of_pairs room) 0 w below After c
-
-false_true : false ≡ true → ⊥
-false_true e = cc
 
 -- a size is not negative, or it counts nothing
 counts_as : (sizes : Bool) (w : Width) (x n : ℕ) → CountsAs sizes (cast_signed w x) n → ((x < 2 ^ hbits w) × (x ≡ n)) ⊎ ((sizes ≡ false) × (2 ^ hbits w ≤ x) × (n ≡ 0))

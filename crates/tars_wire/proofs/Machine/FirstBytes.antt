@@ -15,10 +15,7 @@ use Rattle.tars_wire.specs.Spelled.{Rules}
 use Rattle.tars_wire.specs.MachineSteps.{not, wrong_tag, order_fault, takes, tag_fault, is_full, is_deep, unless, sooner, typed_byte, short_fault, long_fault, judged_byte, first_byte}
 use Rattle.tars_wire.proofs.Grammar.Heads.{type_of-code_of, code_below, code_of-type_of}
 use Rattle.tars_wire.proofs.Machine.Meaning.{Form, Said}
-
--- the two halves of a byte
-halves : (byte high low : ℕ) → byte ≡ 16 * high + low → low < 14 → (byte % 16 ≡ low) × (byte / 16 ≡ high)
-halves byte high low e below = (omega arith, omega arith)
+use Rattle.tars_wire.proofs.TestLemmas.{eqb_fact, halves}
 
 pub first_byte_is : (rules : Rules) (context : HeadContext) (byte high : ℕ) (type : WireType) → byte ≡ 16 * high + code_of type → first_byte rules context byte ≡ judged_byte rules context type high
 unfolding first_byte
@@ -91,9 +88,6 @@ not_full_below rules (heads.Struct from room) type tag below e = struct_room rul
 not_full_below rules (heads.Item wanted room) type tag below e = refl
 not_full_below rules heads.Size type tag below e = refl
 not_full_below rules heads.Simple type tag below e = refl
-
-eqb_fact : (m n : ℕ) → eqb m n ≡ true → m ≡ n
-eqb_fact m n e = grind (arith, nat_tests)
 
 eqb_not : (m n : ℕ) → eqb m n ≡ false → m ≡ n → ⊥
 eqb_not m n e f = grind (arith, nat_tests)

@@ -2,7 +2,6 @@
 use Rattle.std.proofs.Common.{◌≡◌, ℕ, zero, suc, ◌+◌, ◌-◌, ◌*◌, Bool, true, false, cond, ltb, List, [], ◌∷◌, ◌++◌, length, Option, Some, None, Result, Ok, Err, refl, sym, ap, ◌∙◌, arith, take, drop}
 use Rattle.std.specs.Int.{Width, w8, w16, w32}
 use Rattle.std.proofs.lemmas.Bool.{lt-ltb, le-ltb}
-use Rattle.std.proofs.lemmas.Bool.Decides.{nat_tests}
 use Rattle.tars_wire.specs.declared.wire_type.WireType.{WireType}
 use Rattle.tars_wire.specs.declared.wire_type.WireType.TheVariants as wire
 use Rattle.tars_wire.specs.declared.wire_fault.WireWhy.{WireWhy}
@@ -16,6 +15,7 @@ use Rattle.tars_wire.specs.Spelled.{ALL}
 use Rattle.tars_wire.specs.MachineSteps.{tag_fault, unless, first_byte, Kind, of_bytes, of_values, of_pairs, Context, in_struct, an_element, a_key, its_value, a_size, simple_head, head_context, Part, raw, size_first, size_later, head_of, counted, contents, size_bytes, after, Inside, parts, tag_of, head_step, part_step, tag_step}
 use Rattle.tars_wire.specs.PrefixSteps.{bytes_front, unsigned_front}
 use Rattle.tars_wire.specs.ScanSteps.{or_short, ◌>>=◌, too_short, stops_at, judged_tag, tag_at, headed, head_at, past, unsigned_at, not_negative, size_number, size_at, reading, counted_at, fields_at, text_at, simple_list_at, sized_at, contents_at, item_at, pair_at}
+use Rattle.tars_wire.proofs.TestLemmas.{ltb_suc}
 
 pub bind_assoc : {A B C : Type 0} (r : Result A Stop) (f : A → Result B Stop) (g : B → Result C Stop) → (r >>= f) >>= g ≡ r >>= (λ x. f x >>= g)
 bind_assoc (Ok x) f g = refl
@@ -48,10 +48,6 @@ pub reading_head : (context : Context) (below : List Part) (w : List ℕ) → re
 unfolding head_at
 reading_head context below [] = refl
 reading_head context below (byte ∷ rest) = head_goes context below byte rest (first_byte ALL (head_context context) byte)
-
--- bytes
-ltb_suc : (a b : ℕ) → ltb (suc a) (suc b) ≡ ltb a b
-ltb_suc a b = grind (arith, nat_tests)
 
 past_zero : (w : List ℕ) → past 0 w ≡ Ok w
 unfolding past bytes_front

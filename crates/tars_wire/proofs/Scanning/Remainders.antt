@@ -1,7 +1,5 @@
 -- What holds of what was read: how much is left, and that no list, map or struct is too deep.
 use Rattle.std.proofs.Common.{◌≡◌, ◌<◌, ◌≤◌, ℕ, ◌/◌, ◌%◌, Bool, true, false, cond, eqb, IsTrue, List, [], ◌∷◌, length, Option, Some, None, Result, Ok, Err, refl, ◌∙◌, subst, arith}
-use Rattle.std.specs.Prelude.{◌&&◌}
-use Rattle.std.proofs.lemmas.Bool.Decides.{nat_tests}
 use Rattle.tars_wire.specs.declared.wire_type.WireType.{WireType}
 use Rattle.tars_wire.specs.declared.wire_fault.WireWhy.{WireWhy}
 use Rattle.tars_wire.specs.declared.wire_fault.WireWhy.TheVariants as why
@@ -17,6 +15,7 @@ use Rattle.tars_wire.specs.MachineSteps.{takes, tag_fault, is_deep, unless, shor
 use Rattle.tars_wire.specs.ScanSteps.{stops_at, judged_tag, tag_at, headed, head_at, reading, contents_at}
 use Rattle.tars_wire.proofs.Machine.FirstBytes.{short_fits, long_fits}
 use Rattle.tars_wire.proofs.Scanning.Readings.{bind_ok, reading_contents}
+use Rattle.tars_wire.proofs.TestLemmas.{room_for}
 
 -- no list, map or struct too deep is let in
 abbrev Shallow : HeadContext → Result FirstByte WireWhy → Type 0
@@ -111,17 +110,10 @@ contents_not_longer room type w v e = let P : Result (List ℕ) Stop → Type 0 
 head_is_shallow : (context : HeadContext) (w v : List ℕ) (head : Head) → head_at context w ≡ Ok (head, v) → is_deep ALL context head.kind ≡ false
 head_is_shallow context w v head e = let P : Result (Head × List ℕ) Stop → Type 0 = HeadFacts context w in (subst P e (head_facts context w)).0
 
-false_true : false ≡ true → ⊥
-false_true e = cc
-
-room_for : (type : WireType) (room : ℕ) (b : Bool) → opens type ≡ b → (b && eqb room 0) ≡ false → IsTrue b → 0 < room
-room_for type room true e f t = grind (arith, nat_tests)
-room_for type room false e f t = absurd (false_true t)
-
 pub item_room : (tag room : ℕ) (w v : List ℕ) (head : Head) → head_at (heads.Item tag room) w ≡ Ok (head, v) → IsTrue (opens head.kind) → 0 < room
 unfolding is_deep
-item_room tag room w v head e = room_for head.kind room (opens head.kind) refl (head_is_shallow (heads.Item tag room) w v head e)
+item_room tag room w v head e = room_for (opens head.kind) room (head_is_shallow (heads.Item tag room) w v head e)
 
 pub struct_room : (from room : ℕ) (w v : List ℕ) (head : Head) → head_at (heads.Struct from room) w ≡ Ok (head, v) → IsTrue (opens head.kind) → 0 < room
 unfolding is_deep
-struct_room from room w v head e = room_for head.kind room (opens head.kind) refl (head_is_shallow (heads.Struct from room) w v head e)
+struct_room from room w v head e = room_for (opens head.kind) room (head_is_shallow (heads.Struct from room) w v head e)

@@ -1,5 +1,5 @@
 -- Into a list, a map or a struct, and out of it.
-use Rattle.std.proofs.Common.{[], ◌≡◌, ◌<◌, ◌≤◌, get_or, length, zero, ℕ, suc, ◌+◌, ◌-◌, ◌*◌, true, false, IsSome, List, ◌∷◌, Option, Some, None, refl, sym, ap, ◌∙◌, subst, arith}
+use Rattle.std.proofs.Common.{[], ◌≡◌, ◌<◌, ◌≤◌, get_or, length, zero, ℕ, suc, ◌+◌, ◌-◌, ◌*◌, true, IsSome, List, ◌∷◌, Option, Some, None, refl, sym, ap, ◌∙◌, subst, arith}
 use Rattle.std.proofs.Math.ListN.{set}
 use Rattle.std.proofs.lemmas.List.{get_or-set_same, get_or-set_other}
 use Rattle.wire_words.specs.Tree.{WireNumber, WireValue, WireValues, WirePairs}
@@ -16,9 +16,7 @@ use Rattle.tars_wire.proofs.Walking.Prefixes.{size_front_is}
 use Rattle.tars_wire.proofs.Walking.OneReading.{left_same}
 use Rattle.tars_wire.proofs.Walking.OneField.{Turn, turn}
 use Rattle.tars_wire.proofs.Walking.Turns.{found_first, found_second}
-
-false_true : false ≡ true → ⊥
-false_true e = cc
+use Rattle.tars_wire.proofs.TestLemmas.{false_true}
 
 -- the size of a list or a map is the number of its values or pairs
 pub values_count : {room n : ℕ} {vs : WireValues} {w rest : List ℕ} → Values room n vs w rest → count_values vs ≡ n

@@ -1,7 +1,5 @@
 -- To the end of a level.
-use Rattle.std.proofs.Common.{is_some, ◌≡◌, ◌<◌, ℕ, Bool, true, false, eqb, IsTrue, IsSome, IsOk, List, [], length, Option, Some, None, Result, Ok, refl, sym, ap, ◌∙◌, subst, arith}
-use Rattle.std.specs.Prelude.{◌&&◌}
-use Rattle.std.proofs.lemmas.Bool.Decides.{nat_tests}
+use Rattle.std.proofs.Common.{is_some, ◌≡◌, ◌<◌, ℕ, false, IsTrue, IsSome, IsOk, List, [], length, Option, Some, None, Result, Ok, refl, sym, ap, ◌∙◌, subst, arith}
 use Rattle.wire_words.specs.Tree.{WireValue}
 use Rattle.tars_wire.specs.declared.wire_type.WireType.{WireType}
 use Rattle.tars_wire.specs.declared.wire_type.WireType.TheVariants as wire
@@ -19,9 +17,7 @@ use Rattle.tars_wire.proofs.Walking.Prefixes.{head_front_is, contents_complete}
 use Rattle.tars_wire.proofs.Scanning.Remainders.{contents_not_longer}
 use Rattle.tars_wire.proofs.Walking.OneField.{OneField, AtEnd, OneOf, one_of}
 use Rattle.tars_wire.proofs.Walking.Turns.{found_first, found_second}
-
-false_true : false ≡ true → ⊥
-false_true e = cc
+use Rattle.tars_wire.proofs.TestLemmas.{false_true, room_for}
 
 shorter : {tag : ℕ} {type : WireType} {w rest : List ℕ} → Head tag type w rest → length rest < length w
 shorter (short e b) = omega arith
@@ -56,11 +52,7 @@ module _ (room : ℕ) (l : Level) (inner : Remaining) (w after : List ℕ) (x : 
     next_passes = rw passes refl
 
     pub next_room : IsTrue (opens read.kind) → 0 < room
-    next_room t = go (opens (type_of_value the_next.0.1)) (room_left ALL the_next.1.contents) (sym (ap opens the_type) ∙ t)
-      where
-        go : (b : Bool) → (b && eqb room 0) ≡ false → b ≡ true → 0 < room
-        go true e f = grind (arith, nat_tests)
-        go false e f = absurd (false_true f)
+    next_room t = room_for (opens (type_of_value the_next.0.1)) room (room_left ALL the_next.1.contents) (sym (ap opens the_type) ∙ t)
 
     module _ (rest : List ℕ) (got : contents_at room read.kind behind ≡ Ok rest) where
       mid_is : the_next.1.mid ≡ rest

@@ -12,6 +12,7 @@ use Rattle.tars_wire.specs.Spelled.{Number, is_zero_tag, is_int1, is_int2, is_in
 use Rattle.tars_wire.specs.Left.{Remaining, fields_left, values_left, pairs_left, value_left, next_field, behind_next, type_of_number, type_of_value, next_of, head_in, head_left, skipped, LevelLeft, Left}
 use Rattle.tars_wire.specs.PrefixSteps.{head_front, less, HasMore, is_over}
 use Rattle.tars_wire.proofs.Walking.Prefixes.{head_front_is}
+use Rattle.tars_wire.proofs.TestLemmas.{false_true}
 
 -- a value is spelled under its type
 number_type : {type : WireType} {n : WireNumber} {w rest : List ℕ} → Number type n w rest → type ≡ type_of_number n
@@ -139,9 +140,6 @@ head_case room (level.Map n) inner w rest None x e = absurd (over_false n x.0 e)
 
 over_true : (n : ℕ) → 0 < n → eqb n 0 ≡ true → ⊥
 over_true n e f = grind (arith, nat_tests)
-
-false_true : false ≡ true → ⊥
-false_true e = cc
 
 head_some : {tag : ℕ} {type : WireType} {w rest : List ℕ} → Head tag type w rest → 0 < length w
 head_some (short e b) = omega arith

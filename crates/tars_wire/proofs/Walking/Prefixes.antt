@@ -1,8 +1,7 @@
 -- What is spelled at the front is what the code reads there.
-use Rattle.std.proofs.Common.{◌≡◌, ◌<◌, ◌^◌, ℕ, suc, ◌+◌, ◌*◌, ◌/◌, ◌%◌, Bool, true, false, cond, ltb, pos, List, [], ◌∷◌, length, take, drop, Option, Some, None, Result, Ok, Err, refl, sym, ap, ◌∙◌, subst, arith}
+use Rattle.std.proofs.Common.{◌≡◌, ◌<◌, ◌^◌, ℕ, suc, ◌+◌, ◌*◌, Bool, true, false, cond, ltb, pos, List, [], ◌∷◌, length, take, drop, Option, Some, None, Result, Ok, Err, refl, sym, ap, ◌∙◌, subst, arith}
 use Rattle.std.specs.Int.{Width, w8, w16, w32, w64, byte_len, from_be_bytes}
 use Rattle.std.proofs.lemmas.Bool.{lt-ltb, le-ltb}
-use Rattle.std.proofs.lemmas.Bool.Decides.{nat_tests}
 use Rattle.wire_words.specs.Tree.{WireNumber, WireValue}
 use Rattle.tars_wire.specs.declared.wire_type.WireType.{WireType}
 use Rattle.tars_wire.specs.declared.wire_fault.WireWhy.{WireWhy}
@@ -20,9 +19,7 @@ use Rattle.tars_wire.proofs.Machine.Steps.{Inner, part_there, part_ends, unless_
 use Rattle.tars_wire.proofs.Machine.Counts.{positive}
 use Rattle.tars_wire.proofs.Machine.Forms.{contents_there}
 use Rattle.tars_wire.proofs.Scanning.Readings.{bind_ok, reading_contents}
-
-halves : (b high low : ℕ) → b ≡ 16 * high + low → low < 14 → (b % 16 ≡ low) × (b / 16 ≡ high)
-halves b high low e below = (omega arith, omega arith)
+use Rattle.tars_wire.proofs.TestLemmas.{ltb_suc, halves}
 
 front_of : (b high : ℕ) (type : WireType) (rest : List ℕ) → b ≡ 16 * high + code_of type → head_front (b ∷ rest) ≡ typed_front (Some type) high rest
 unfolding head_front
@@ -34,10 +31,6 @@ pub head_front_is : {tag : ℕ} {type : WireType} {w rest : List ℕ} → Head t
 head_front_is {tag} {type} {w} {rest} (short {byte = b} e below) = front_of b tag type rest e ∙ rw (lt-ltb tag 15 below) refl
 head_front_is {tag} {type} {w} {rest} (long {byte = b} e below) =
     front_of b 15 type (tag ∷ rest) (let e' : b ≡ 16 * 15 + code_of type = omega arith in e')
-
--- so many bytes
-ltb_suc : (a b : ℕ) → ltb (suc a) (suc b) ≡ ltb a b
-ltb_suc a b = grind (arith, nat_tests)
 
 abbrev front_if : Bool → List ℕ → List ℕ → Option (List ℕ × List ℕ)
 front_if t front rest = cond t None (Some (front, rest))

@@ -1,7 +1,5 @@
 -- What a call of the cursor needs of the next field, and what it leaves.
-use Rattle.std.proofs.Common.{◌≡◌, ◌<◌, ℕ, Bool, true, false, eqb, IsTrue, IsSome, IsOk, ℤ, List, ◌∷◌, Option, Some, None, Result, Ok, refl, sym, ap, ◌∙◌, subst, arith}
-use Rattle.std.specs.Prelude.{◌&&◌}
-use Rattle.std.proofs.lemmas.Bool.Decides.{nat_tests}
+use Rattle.std.proofs.Common.{◌≡◌, ◌<◌, ℕ, Bool, true, IsTrue, IsSome, IsOk, ℤ, List, ◌∷◌, Option, Some, None, Result, Ok, refl, sym, ap, ◌∙◌, subst}
 use Rattle.wire_words.specs.Tree.{WireNumber, zero_tag, int1, int2, int4, int8, WireValue, whole, float, double, string1, string4, simple_list, list, map, struct}
 use Rattle.tars_wire.specs.declared.wire_type.WireType.{WireType}
 use Rattle.tars_wire.specs.declared.head.Head.{Head as ReadHead}
@@ -16,9 +14,7 @@ use Rattle.tars_wire.proofs.Machine.Forms.{room_left}
 use Rattle.tars_wire.proofs.Walking.Prefixes.{simple_front_is, text_front_is, number_front_is, contents_complete}
 use Rattle.tars_wire.proofs.Walking.OneReading.{left_same}
 use Rattle.tars_wire.proofs.Walking.OneField.{Turn, turn}
-
-false_true : false ≡ true → ⊥
-false_true e = cc
+use Rattle.tars_wire.proofs.TestLemmas.{false_true, room_for}
 
 none_some : {A : Type 0} {x : A} → None ≡ Some x → ⊥
 none_some e = cc
@@ -160,11 +156,7 @@ module _ (room : ℕ) (l : Level) (levels : List Level) (left : List Remaining) 
   can_pass = rw passed refl
 
   pub has_room : IsTrue (opens read.kind) → 0 < room
-  has_room t = go (opens h.kind) (room_left ALL a_turn.contents) (sym (ap (λ (k : ReadHead). opens k.kind) (found_first read h behind a_turn.behind (sym is_read ∙ a_turn.front))) ∙ t)
-    where
-      go : (b : Bool) → (b && eqb room 0) ≡ false → b ≡ true → 0 < room
-      go true e f = grind (arith, nat_tests)
-      go false e f = absurd (false_true f)
+  has_room t = room_for (opens h.kind) room (room_left ALL a_turn.contents) (sym (ap (λ (k : ReadHead). opens k.kind) (found_first read h behind a_turn.behind (sym is_read ∙ a_turn.front))) ∙ t)
 
   module _ (rest : List ℕ) (got : contents_at room read.kind behind ≡ Ok rest) where
     mid_is : a_turn.mid ≡ rest
