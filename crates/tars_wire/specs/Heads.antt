@@ -1,11 +1,20 @@
 -- Heads (docs/PROTOCOL.md, "Heads", "Contents").
-use Rattle.std.specs.Prelude.{◌≡◌, ◌<◌, ℕ, ◌+◌, ◌*◌, Bool, true, false, List, ◌∷◌, Option, Some, None, ◌==◌, if◌then◌else◌}
+use Rattle.std.specs.Prelude.{◌≡◌, ◌<◌, ℕ, ◌+◌, ◌*◌, Bool, true, false, List, ◌∷◌, Option, Some, None, Result, MatchResult, ◌==◌, if◌then◌else◌}
 use Rattle.tars_wire.specs.declared.wire_type.WireType.{WireType}
 use Rattle.tars_wire.specs.declared.wire_type.WireType.TheVariants as wire
+use Rattle.tars_wire.specs.declared.wire_type.UnknownType.{UnknownType}
 
 -- how many lists, maps and structs may stand inside one another
 abbrev pub MAX_DEPTH : ℕ
 MAX_DEPTH = 64
+
+-- the highest tag
+abbrev pub MAX_TAG : ℕ
+MAX_TAG = 255
+
+-- the high four bits of a head whose tag has a byte of its own
+abbrev pub LONG_HEAD : ℕ
+LONG_HEAD = 15
 
 -- the type of a code; 14 and 15 have none
 unfoldable pub type_of : ℕ → Option WireType
@@ -25,6 +34,10 @@ type_of code =
     else (if code == 12 then Some wire.ZeroTag
     else (if code == 13 then Some wire.SimpleList
     else None)))))))))))))
+
+-- the result is the type with this code, or an error with a code that no type has
+abbrev pub Decodes : ℕ → Result WireType UnknownType → Type 0
+Decodes code r = MatchResult r (λ type. type_of code ≡ Some type) (λ unknown. (unknown.0 ≡ code) × (type_of code ≡ None))
 
 abbrev pub code_of : WireType → ℕ
 code_of wire.Int1 = 0
@@ -54,8 +67,8 @@ abbrev pub is_end : WireType → Bool
 is_end wire.StructEnd = true
 is_end _ = false
 
--- Bytes begin with a head of this tag and type, and these are behind it. The tag stands in the high four
--- bits of the first byte, or those are 15 and the next byte is the tag: a reader takes either form.
+-- Bytes begin with a head of this tag and type, and these are after it. The tag stands in the high four
+-- bits of the first byte, or the next byte is the tag: a reader takes either form.
 pub data Head : ℕ → WireType → List ℕ → List ℕ → Type 0 where
-  short : {tag byte : ℕ} {type : WireType} {rest : List ℕ} → byte ≡ 16 * tag + code_of type → tag < 15 → Head tag type (byte ∷ rest) rest
-  long : {tag byte : ℕ} {type : WireType} {rest : List ℕ} → byte ≡ 240 + code_of type → tag < 256 → Head tag type (byte ∷ tag ∷ rest) rest
+  short : {tag byte : ℕ} {type : WireType} {rest : List ℕ} → byte ≡ 16 * tag + code_of type → tag < LONG_HEAD → Head tag type (byte ∷ rest) rest
+  long : {tag byte : ℕ} {type : WireType} {rest : List ℕ} → byte ≡ 16 * LONG_HEAD + code_of type → tag < MAX_TAG + 1 → Head tag type (byte ∷ tag ∷ rest) rest

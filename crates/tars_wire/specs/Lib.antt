@@ -1,7 +1,7 @@
 pub mod Heads
 pub mod Spelled
-pub mod Awaited
+pub mod MachineSteps
 pub mod Faults
-pub mod Reading
+pub mod ScanSteps
 pub mod Left
-pub mod Pieces
+pub mod PrefixSteps

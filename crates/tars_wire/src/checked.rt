@@ -8,7 +8,7 @@ use crate::cursor::Cursor;
 use std::marker::Model;
 
 /// Bytes that are a body.
-#[derive(Debug, Drop)]
+#[derive(Drop)]
 pub struct Checked<'a> {
     bytes: &'a [u8],
 }

@@ -3,29 +3,30 @@
 ghost use Rattle.std.specs.Prelude.{◌⊎◌, ◌≡◌, ◌<◌, ◌↔◌, ℕ, List, [], ◌++◌, length, All};
 ghost use Rattle.tars_wire.specs.declared.wire_fault.WireFault.{WireFault};
 ghost use Rattle.tars_wire.specs.Faults.{IsFault, HasFault};
-ghost use Rattle.tars_wire.specs.Heads.{MAX_DEPTH};
+ghost use Rattle.tars_wire.specs.Heads.{MAX_DEPTH, MAX_TAG, LONG_HEAD};
 ghost use Rattle.wire_words.specs.Tree.{WireValue, WireFields};
 ghost use Rattle.tars_wire.specs.Spelled.{IsBody, Spelled, SpelledField};
 ghost use Rattle.tars_wire.specs.Left.{Standing, Remaining, IsLeft};
 
-use crate::spot::{LAST_TAG, LONG_FORM, MAX_OPEN};
+use crate::head::{LAST_TAG, LONG_FORM};
+use crate::head_context::MAX_OPEN;
 use crate::wire_fault::WireWhy;
 
 /// The limits, as numbers.
 pub fn limits()
     ensures depth { (MAX_OPEN ≡ 64) × (MAX_DEPTH ≡ 64) }
-    ensures long_form { LONG_FORM ≡ 15 }
-    ensures last_tag { LAST_TAG ≡ 255 }
+    ensures long_form { (LONG_FORM ≡ 15) × (LONG_HEAD ≡ 15) }
+    ensures last_tag { (LAST_TAG ≡ 255) × (MAX_TAG ≡ 255) }
 {}
 
 /// Bytes spell one list of fields at most.
-#[tactic(auto, using(crate::proofs::Extends::one_reading_law))]
+#[tactic(auto, using(crate::proofs::Grammar::Extends::one_reading_law))]
 pub fn one_reading()
     ensures { (room other_room : ℕ) (bytes : List ℕ) (fields others : WireFields) → Spelled room bytes fields → Spelled other_room bytes others → fields ≡ others }
 {}
 
 /// No spelling of a field goes on from a spelling of a field, of whatever tag and value.
-#[tactic(auto, using(crate::proofs::Extends::no_prefix_law))]
+#[tactic(auto, using(crate::proofs::Grammar::Extends::no_prefix_law))]
 pub fn no_spelling_begins_another()
     ensures { (room other_room tag other_tag : ℕ) (value other : WireValue) (bytes more : List ℕ) → SpelledField room tag value bytes → SpelledField other_room other_tag other (bytes ++ more) → more ≡ [] }
 {}

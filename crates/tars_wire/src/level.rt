@@ -1,8 +1,8 @@
 ghost use Rattle.std.specs.Prelude.{◌≡◌};
-ghost use Rattle.tars_wire.specs.Pieces.{less, HasMore, is_over};
+ghost use Rattle.tars_wire.specs.PrefixSteps.{less, HasMore, is_over};
 
 /// What is open around the next field, and how many fields of a list or a map are left there.
-#[derive(Clone, Copy, Debug, PartialEq, Eq)]
+#[derive(Clone, Copy)]
 pub enum Level {
     Body,
     Struct,
@@ -13,7 +13,7 @@ pub enum Level {
 
 impl Level {
     /// One field less.
-    #[tactic(auto, unfolding(crate::specs::Pieces::less))]
+    #[tactic(auto, unfolding(crate::specs::PrefixSteps::less))]
     pub fn less(self) -> Level
         requires { HasMore self }
         ensures { result ≡ less self }
@@ -27,7 +27,7 @@ impl Level {
     }
 
     /// Whether nothing is left, but for the end of a struct.
-    #[tactic(auto, unfolding(crate::specs::Pieces::is_over))]
+    #[tactic(auto, unfolding(crate::specs::PrefixSteps::is_over))]
     pub fn is_over(self, rest: &[u8]) -> bool
         ensures { result ≡ is_over self rest.now }
     {

@@ -7,10 +7,11 @@
 mod checked;
 mod cursor;
 mod head;
+mod head_context;
 mod laws;
 mod level;
+mod prefix;
 mod scanner;
-mod spot;
 mod stop;
 mod wire_fault;
 mod wire_type;
@@ -24,4 +25,4 @@ pub use laws::{
 };
 pub use scanner::scan;
 pub use wire_fault::{WireFault, WireWhy};
-pub use wire_type::WireType;
+pub use wire_type::{UnknownType, WireType};

@@ -1,7 +1,7 @@
 use crate::wire_fault::WireWhy;
 
 /// Where reading stopped, and why.
-#[derive(Clone, Copy, Debug, PartialEq, Eq)]
+#[derive(Clone, Copy)]
 pub struct Stop {
     /// How many bytes are left, from the first wrong one on. None for `Short`.
     pub left: usize,

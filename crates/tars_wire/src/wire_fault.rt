@@ -4,7 +4,7 @@ ghost use Rattle.tars_wire.specs.Faults.{number_of, word_of, words_of};
 use std::fmt;
 
 /// Why bytes are no body.
-#[derive(Clone, Copy, Debug, PartialEq, Eq)]
+#[derive(Clone, Copy, PartialEq, Eq)]
 pub enum WireWhy {
     /// The bytes end inside a body.
     Short,
@@ -53,7 +53,7 @@ impl fmt::Display for WireWhy {
 }
 
 /// The first byte after which nothing makes the bytes a body, counted from 0.
-#[derive(Clone, Copy, Debug, PartialEq, Eq)]
+#[derive(Clone, Copy, PartialEq, Eq)]
 pub struct WireFault {
     /// The number of bytes before it. All of them for `Short`.
     pub at: u32,

@@ -1,6 +1,6 @@
 ghost use Rattle.std.specs.Prelude.{◌≡◌, ◌<◌};
-ghost use Rattle.tars_wire.specs.Heads.{code_of, type_of, opens, is_end};
-ghost use Rattle.tars_wire.specs.Awaited.{is_size};
+ghost use Rattle.tars_wire.specs.Heads.{Decodes, code_of, opens, is_end};
+ghost use Rattle.tars_wire.specs.MachineSteps.{is_size};
 
 /// How the contents of a field are spelled: the low four bits of its head (docs/PROTOCOL.md,
 /// "Contents").
@@ -22,31 +22,38 @@ pub enum WireType {
     SimpleList = 13,
 }
 
-impl WireType {
-    /// None for the codes 14 and 15, under which nothing is spelled.
+/// A code under which nothing is spelled: 14 or 15, or more than four bits hold.
+#[derive(Clone, Copy, PartialEq, Eq)]
+pub struct UnknownType(pub u8);
+
+impl TryFrom<u8> for WireType {
+    type Error = UnknownType;
+
+    ghost try_from_gives = { Decodes };
+
     #[tactic(auto, unfolding(crate::specs::Heads::type_of))]
-    pub fn from_code(code: u8) -> Option<WireType>
-        ensures { result ≡ type_of code }
-    {
+    fn try_from(code: u8) -> Result<Self, UnknownType> {
         match code {
-            0 => Some(WireType::Int1),
-            1 => Some(WireType::Int2),
-            2 => Some(WireType::Int4),
-            3 => Some(WireType::Int8),
-            4 => Some(WireType::Float),
-            5 => Some(WireType::Double),
-            6 => Some(WireType::String1),
-            7 => Some(WireType::String4),
-            8 => Some(WireType::Map),
-            9 => Some(WireType::List),
-            10 => Some(WireType::StructBegin),
-            11 => Some(WireType::StructEnd),
-            12 => Some(WireType::ZeroTag),
-            13 => Some(WireType::SimpleList),
-            _ => None,
+            0 => Ok(WireType::Int1),
+            1 => Ok(WireType::Int2),
+            2 => Ok(WireType::Int4),
+            3 => Ok(WireType::Int8),
+            4 => Ok(WireType::Float),
+            5 => Ok(WireType::Double),
+            6 => Ok(WireType::String1),
+            7 => Ok(WireType::String4),
+            8 => Ok(WireType::Map),
+            9 => Ok(WireType::List),
+            10 => Ok(WireType::StructBegin),
+            11 => Ok(WireType::StructEnd),
+            12 => Ok(WireType::ZeroTag),
+            13 => Ok(WireType::SimpleList),
+            _ => Err(UnknownType(code)),
         }
     }
+}
 
+impl WireType {
     pub fn code(self) -> u8
         ensures value { result ≡ code_of self }
         ensures below { result < 16 }
@@ -58,34 +65,23 @@ impl WireType {
     pub fn opens(self) -> bool
         ensures { result ≡ opens self }
     {
-        match self {
-            WireType::Map => true,
-            WireType::List => true,
-            WireType::StructBegin => true,
-            _ => false,
-        }
+        matches!(self, WireType::Map | WireType::List | WireType::StructBegin)
     }
 
     /// Whether a size may be of this type.
     pub fn is_size(self) -> bool
         ensures { result ≡ is_size self }
     {
-        match self {
-            WireType::Int1 => true,
-            WireType::Int2 => true,
-            WireType::Int4 => true,
-            WireType::ZeroTag => true,
-            _ => false,
-        }
+        matches!(
+            self,
+            WireType::ZeroTag | WireType::Int1 | WireType::Int2 | WireType::Int4
+        )
     }
 
     /// Whether it ends a struct, and is no field.
     pub fn is_end(self) -> bool
         ensures { result ≡ is_end self }
     {
-        match self {
-            WireType::StructEnd => true,
-            _ => false,
-        }
+        matches!(self, WireType::StructEnd)
     }
 }

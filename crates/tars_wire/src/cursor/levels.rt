@@ -3,7 +3,7 @@
 ghost use Rattle.std.specs.Prelude.{◌≡◌, ℕ, List};
 ghost use Rattle.tars_wire.specs.Left.{Remaining, LevelLeft, head_in, next_field, SomeLevel, AtLevel};
 
-use super::pieces::{past_value, peek_head};
+use super::known::{known_head, past_value};
 use crate::head::Head;
 use crate::level::Level;
 
@@ -15,7 +15,7 @@ pub fn next_head(here: Level, rest: &[u8]) -> Option<Head>
     if here.is_over(rest) {
         return None;
     }
-    let (head, _) = peek_head(rest);
+    let (head, _) = known_head(rest);
     if head.kind.is_end() { None } else { Some(head) }
 }
 
@@ -27,13 +27,13 @@ pub fn past_level(room: u8, level: Level, bytes: &[u8]) -> &[u8]
     let mut here = level;
     let mut rest = bytes;
     while next_head(here, rest).is_some() {
-        let (head, behind) = peek_head(rest);
+        let (head, behind) = known_head(rest);
         rest = past_value(room, head.kind, behind);
         here = here.less();
     }
     match here {
         Level::Struct => {
-            let (_, after) = peek_head(rest);
+            let (_, after) = known_head(rest);
             after
         }
         Level::Body => rest,

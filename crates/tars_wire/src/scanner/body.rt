@@ -1,12 +1,12 @@
 ghost use Rattle.std.specs.Prelude.{◌≡◌, ◌<◌, ◌^◌, length, List, [], OnOk, IfOk, IfErr, IsOk, Err};
 ghost use Rattle.tars_wire.specs.Spelled.{IsBody};
 ghost use Rattle.tars_wire.specs.Faults.{IsFault};
-ghost use Rattle.tars_wire.specs.Reading.{Gives, body_at};
+ghost use Rattle.tars_wire.specs.ScanSteps.{Gives, body_at};
 
 use super::contents::past_contents;
 use super::heads::read_head;
 use crate::checked::Checked;
-use crate::spot::{MAX_OPEN, Spot};
+use crate::head_context::{HeadContext, MAX_OPEN};
 use crate::stop::Stop;
 use crate::wire_fault::WireFault;
 
@@ -17,7 +17,7 @@ fn past_body(bytes: &[u8]) -> Result<(), Stop>
     let mut rest = bytes;
     let mut from = 0;
     while !rest.is_empty() {
-        let (head, behind) = read_head(Spot::Body { from }, rest)?;
+        let (head, behind) = read_head(HeadContext::Body { from }, rest)?;
         rest = past_contents(MAX_OPEN, head.kind, behind)?;
         from = u16::from(head.tag) + 1;
     }

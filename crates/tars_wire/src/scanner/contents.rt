@@ -1,17 +1,17 @@
 ghost use Rattle.std.specs.Prelude.{◌≡◌, ◌<◌, ◌≤◌, IsTrue, length, IfOk};
 ghost use Rattle.std.specs.Int.{w8, w32};
 ghost use Rattle.tars_wire.specs.Heads.{opens};
-ghost use Rattle.tars_wire.specs.Awaited.{of_values, of_pairs};
-ghost use Rattle.tars_wire.specs.Reading.{Gives, text_at, simple_list_at, sized_at, counted_at, fields_at, contents_at, item_at, pair_at};
+ghost use Rattle.tars_wire.specs.MachineSteps.{of_values, of_pairs};
+ghost use Rattle.tars_wire.specs.ScanSteps.{Gives, text_at, simple_list_at, sized_at, counted_at, fields_at, contents_at, item_at, pair_at};
 
 use super::heads::read_head;
 use super::numbers::{past, read_size, read_u8, read_u32};
-use crate::spot::Spot;
+use crate::head_context::HeadContext;
 use crate::stop::Stop;
 use crate::wire_type::WireType;
 
 /// Past a text with a length of one byte.
-#[tactic(auto, unfolding(crate::specs::Reading::text_at))]
+#[tactic(auto, unfolding(crate::specs::ScanSteps::text_at))]
 fn past_short_text(bytes: &[u8]) -> Result<&[u8], Stop>
     ensures { Gives (λ x. x.now) result (text_at w8 bytes.now) }
 {
@@ -20,7 +20,7 @@ fn past_short_text(bytes: &[u8]) -> Result<&[u8], Stop>
 }
 
 /// Past a text with a length of four bytes.
-#[tactic(auto, unfolding(crate::specs::Reading::text_at))]
+#[tactic(auto, unfolding(crate::specs::ScanSteps::text_at))]
 fn past_long_text(bytes: &[u8]) -> Result<&[u8], Stop>
     ensures { Gives (λ x. x.now) result (text_at w32 bytes.now) }
 {
@@ -29,11 +29,11 @@ fn past_long_text(bytes: &[u8]) -> Result<&[u8], Stop>
 }
 
 /// Past the bytes of a simple list.
-#[tactic(auto, unfolding(crate::specs::Reading::simple_list_at))]
+#[tactic(auto, unfolding(crate::specs::ScanSteps::simple_list_at))]
 fn past_simple_list(bytes: &[u8]) -> Result<&[u8], Stop>
     ensures { Gives (λ x. x.now) result (simple_list_at bytes.now) }
 {
-    let (_, rest) = read_head(Spot::Simple, bytes)?;
+    let (_, rest) = read_head(HeadContext::Simple, bytes)?;
     let (size, rest) = read_size(rest)?;
     past(size, rest)
 }
@@ -41,7 +41,7 @@ fn past_simple_list(bytes: &[u8]) -> Result<&[u8], Stop>
 /// Past what stands behind a head of this type. `room` is how many lists, maps and structs may be opened
 /// inside one another.
 #[cycle(contents)]
-#[tactic(auto, unfolding(crate::specs::Reading::contents_at, crate::specs::Reading::sized_at))]
+#[tactic(auto, unfolding(crate::specs::ScanSteps::contents_at, crate::specs::ScanSteps::sized_at))]
 pub fn past_contents(room: u8, kind: WireType, bytes: &[u8]) -> Result<&[u8], Stop>
     requires { IsTrue (opens kind) → 0 < room }
     ensures { Gives (λ x. x.now) result (contents_at room kind bytes.now) }
@@ -72,11 +72,11 @@ pub fn past_contents(room: u8, kind: WireType, bytes: &[u8]) -> Result<&[u8], St
 
 /// Past an element, a key or a map's value.
 #[cycle(contents)]
-#[tactic(auto, unfolding(crate::specs::Reading::item_at), using(crate::proofs::ReadingLaws::item_room))]
+#[tactic(auto, unfolding(crate::specs::ScanSteps::item_at), using(crate::proofs::Scanning::Remainders::item_room))]
 fn past_item(tag: u8, room: u8, bytes: &[u8]) -> Result<&[u8], Stop>
     ensures { Gives (λ x. x.now) result (item_at tag room bytes.now) }
 {
-    let (head, rest) = read_head(Spot::Item { tag, room }, bytes)?;
+    let (head, rest) = read_head(HeadContext::Item { tag, room }, bytes)?;
     past_contents(room, head.kind, rest)
 }
 
@@ -106,7 +106,7 @@ fn past_pairs(room: u8, count: usize, bytes: &[u8]) -> Result<&[u8], Stop>
 
 /// Past a key and its value.
 #[cycle(contents)]
-#[tactic(auto, unfolding(crate::specs::Reading::pair_at))]
+#[tactic(auto, unfolding(crate::specs::ScanSteps::pair_at))]
 fn past_pair(room: u8, bytes: &[u8]) -> Result<&[u8], Stop>
     ensures { Gives (λ x. x.now) result (pair_at room bytes.now) }
 {
@@ -122,7 +122,7 @@ fn past_fields(room: u8, bytes: &[u8]) -> Result<&[u8], Stop>
     let mut rest = bytes;
     let mut from = 0;
     loop {
-        let (head, behind) = read_head(Spot::Struct { from, room }, rest)?;
+        let (head, behind) = read_head(HeadContext::Struct { from, room }, rest)?;
         if head.kind.is_end() {
             return Ok(behind);
         }

@@ -1,4 +1,4 @@
-use Rattle.tars_wire.proofs.Extends.{no_prefix_law}
+use Rattle.tars_wire.proofs.Grammar.Extends.{no_prefix_law}
 use Rattle.tars_wire.proofs.laws.no_spelling_begins_another.Goals as goal
 
 pub returns : goal.returns

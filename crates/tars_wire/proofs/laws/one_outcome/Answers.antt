@@ -1,6 +1,6 @@
 use Rattle.std.proofs.Common.{◌<◌}
 use Rattle.std.proofs.lemmas.List.Elements.{recursion_from_All}
-use Rattle.tars_wire.proofs.FaultLaws.{some_outcome, same_faults}
+use Rattle.tars_wire.proofs.Machine.Faults.{some_outcome, same_faults}
 use Rattle.tars_wire.proofs.laws.one_outcome.Goals as goal
 
 pub returns-clause-some : goal.returns-clause-some

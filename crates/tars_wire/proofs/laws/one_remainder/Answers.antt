@@ -1,4 +1,4 @@
-use Rattle.tars_wire.proofs.Walks.{left_same}
+use Rattle.tars_wire.proofs.Walking.OneReading.{left_same}
 use Rattle.tars_wire.proofs.laws.one_remainder.Goals as goal
 
 pub returns : goal.returns

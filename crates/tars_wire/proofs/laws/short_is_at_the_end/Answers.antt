@@ -1,4 +1,4 @@
-use Rattle.tars_wire.proofs.FaultLaws.{short_at_the_end}
+use Rattle.tars_wire.proofs.Machine.Faults.{short_at_the_end}
 use Rattle.tars_wire.proofs.laws.short_is_at_the_end.Goals as goal
 
 pub returns : goal.returns

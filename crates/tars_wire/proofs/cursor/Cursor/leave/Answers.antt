@@ -1,8 +1,8 @@
 use Rattle.std.proofs.Common.{◌-◌, ◌∷◌, arith}
 use Rattle.tars_wire.specs.Heads.{MAX_DEPTH}
 use Rattle.tars_wire.specs.Left.{left_over, Left, levels_around}
-use Rattle.tars_wire.proofs.Turns.{seen}
-use Rattle.tars_wire.proofs.Entering.{some_around, outer_left, around_length, left_at, two_left}
+use Rattle.tars_wire.proofs.Walking.Turns.{seen}
+use Rattle.tars_wire.proofs.Walking.Entering.{some_around, outer_left, around_length, left_at, two_left}
 use Rattle.tars_wire.proofs.cursor.Cursor.leave.Goals as goal
 
 pub invariant_of-self : goal.invariant_of-self

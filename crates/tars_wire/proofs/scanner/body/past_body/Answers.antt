@@ -1,10 +1,10 @@
 use Rattle.std.proofs.Common.{◌<◌, length, arith}
 use Rattle.std.proofs.lemmas.Result.{err_from_is_err_and}
-use Rattle.tars_wire.specs.declared.spot.Spot.TheVariants as spot
+use Rattle.tars_wire.specs.declared.head_context.HeadContext.TheVariants as heads
 use Rattle.tars_wire.specs.Heads.{MAX_DEPTH}
-use Rattle.tars_wire.specs.Reading.{body_at}
-use Rattle.tars_wire.proofs.ReadingLaws.{head_shorter, contents_not_longer}
-use Rattle.tars_wire.proofs.ScanLoops.{body_done, body_head_fails, body_contents_fail, body_on}
+use Rattle.tars_wire.specs.ScanSteps.{body_at}
+use Rattle.tars_wire.proofs.Scanning.Remainders.{head_shorter, contents_not_longer}
+use Rattle.tars_wire.proofs.Scanning.Loops.{body_done, body_head_fails, body_contents_fail, body_on}
 use Rattle.tars_wire.proofs.scanner.body.past_body.Goals as goal
 
 pub returns-in_err-head : goal.returns-in_err-head
@@ -21,7 +21,7 @@ returns-in_err-rest c =
 
 pub loop-rest-smaller : goal.loop-rest-smaller
 loop-rest-smaller c =
-    let a = head_shorter (spot.Body c.loop-rest.from) c.loop-rest.rest.now c.in_ok-head.behind.now c.in_ok-head.head c.in_ok-head.ensures.read in
+    let a = head_shorter (heads.Body c.loop-rest.from) c.loop-rest.rest.now c.in_ok-head.behind.now c.in_ok-head.head c.in_ok-head.ensures.read in
     let b = contents_not_longer MAX_DEPTH c.in_ok-head.head.kind c.in_ok-head.behind.now c.in_ok-rest.rest.now c.in_ok-rest.ensures in
     omega arith
 

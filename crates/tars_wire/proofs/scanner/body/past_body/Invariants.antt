@@ -1,6 +1,6 @@
 -- what is read so far and what is left are what was to be read
 use Rattle.std.proofs.Common.{◌≡◌, length}
-use Rattle.tars_wire.specs.Reading.{body_at}
+use Rattle.tars_wire.specs.ScanSteps.{body_at}
 use Rattle.tars_wire.proofs.scanner.body.past_body.Given as goal
 
 abbrev pub invariant-loop-rest : goal.invariant-loop-rest

@@ -1,5 +1,5 @@
 use Rattle.std.proofs.Common.{◌<◌, ℕ, get_or, [], Err, ap, arith}
-use Rattle.tars_wire.proofs.Judging.{taken_is_body, stop_is_one, left_within}
+use Rattle.tars_wire.proofs.Scanning.Verdicts.{taken_is_body, stop_is_one, left_within}
 use Rattle.tars_wire.proofs.scanner.body.scan.Goals as goal
 
 pub new-requires : goal.new-requires

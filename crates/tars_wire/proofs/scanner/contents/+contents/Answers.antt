@@ -1,12 +1,12 @@
 use Rattle.std.proofs.Common.{◌≡◌, true, false, arith}
 use Rattle.std.proofs.lemmas.Result.{err_from_is_err_and}
-use Rattle.tars_wire.specs.declared.spot.Spot.TheVariants as spot
+use Rattle.tars_wire.specs.declared.head_context.HeadContext.TheVariants as heads
 use Rattle.tars_wire.specs.Heads.{is_end}
-use Rattle.tars_wire.specs.Awaited.{of_values, of_pairs}
-use Rattle.tars_wire.specs.Reading.{counted_at, fields_at, item_at, pair_at}
-use Rattle.tars_wire.proofs.Readings.{no_values_left, no_pairs_left, one_value_more, one_pair_more}
-use Rattle.tars_wire.proofs.ReadingLaws.{struct_room, head_shorter, contents_not_longer}
-use Rattle.tars_wire.proofs.ScanLoops.{counted_on, counted_fails, counted_done, head_fails, struct_ends, contents_fail, fields_on}
+use Rattle.tars_wire.specs.MachineSteps.{of_values, of_pairs}
+use Rattle.tars_wire.specs.ScanSteps.{counted_at, fields_at, item_at, pair_at}
+use Rattle.tars_wire.proofs.Scanning.Readings.{no_values_left, no_pairs_left, one_value_more, one_pair_more}
+use Rattle.tars_wire.proofs.Scanning.Remainders.{struct_room, head_shorter, contents_not_longer}
+use Rattle.tars_wire.proofs.Scanning.Loops.{counted_on, counted_fails, counted_done, head_fails, struct_ends, contents_fail, fields_on}
 use Rattle.tars_wire.proofs.scanner.contents.+contents.Goals as goal
 
 pub past_fields-returns-in_err-head : goal.past_fields-returns-in_err-head
@@ -31,7 +31,7 @@ past_fields-returns-in_err-rest t c =
 
 pub past_fields-loop-head-smaller : goal.past_fields-loop-head-smaller
 past_fields-loop-head-smaller t c =
-    let a = head_shorter (spot.Struct c.loop-head.from c.args.room) c.loop-head.rest.now c.in_ok-head.behind.now c.in_ok-head.head c.in_ok-head.ensures.read in
+    let a = head_shorter (heads.Struct c.loop-head.from c.args.room) c.loop-head.rest.now c.in_ok-head.behind.now c.in_ok-head.head c.in_ok-head.ensures.read in
     let b = contents_not_longer c.args.room c.in_ok-head.head.kind c.in_ok-head.behind.now c.in_ok-rest.rest.now c.in_ok-rest.ensures in
     omega arith
 

@@ -1,8 +1,8 @@
 -- Each list, map or struct that is opened leaves less room. In a loop, what is read so far and what is left
 -- are what was to be read.
 use Rattle.std.proofs.Common.{◌≡◌, ◌+◌, ◌-◌, ◌*◌, length}
-use Rattle.tars_wire.specs.Awaited.{of_values, of_pairs}
-use Rattle.tars_wire.specs.Reading.{counted_at, fields_at}
+use Rattle.tars_wire.specs.MachineSteps.{of_values, of_pairs}
+use Rattle.tars_wire.specs.ScanSteps.{counted_at, fields_at}
 use Rattle.tars_wire.proofs.scanner.contents.+contents.Given as goal
 
 abbrev pub decreases-past_contents : goal.decreases-past_contents
