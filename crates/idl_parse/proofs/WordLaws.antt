@@ -1,5 +1,6 @@
 -- Identifiers and keywords.
-use Rattle.std.proofs.Common.{◌≡◌, ℕ, true, List, [], ◌∷◌, ◌++◌, length, Option, Some, None, refl, sym, ap, ◌∙◌, inl, inr, arith}
+use Rattle.std.specs.Prelude.{MatchOption}
+use Rattle.std.proofs.Common.{◌≡◌, ◌≢◌, ℕ, true, List, [], ◌∷◌, ◌++◌, length, Option, Some, None, refl, sym, ap, ◌∙◌, inl, inr, arith}
 use Rattle.std.proofs.lemmas.Bool.{cases_Bool}
 use Rattle.std.proofs.lemmas.Bool.Decides.{nat_tests}
 use Rattle.std.proofs.lemmas.List.{append-nil}
@@ -12,34 +13,27 @@ use Rattle.idl_parse.specs.declared.keyword.Keyword.TheVariants as keyword
 use Rattle.idl_parse.specs.Bytes.{is_word_byte}
 use Rattle.idl_parse.specs.Spellings.{keyword_text}
 use Rattle.idl_parse.specs.Forms.{IsWord, IsForm}
-use Rattle.idl_parse.specs.Lexing.{run, lookup, keyword_table, keyword_of, kind_of, word_at, token_at}
+use Rattle.idl_parse.specs.Lexing.{run, keyword_among, all_keywords, keyword_of, kind_of, word_at, token_at}
 use Rattle.idl_parse.proofs.Dominating.{Dominates}
 use Rattle.idl_parse.proofs.RunLaws.{run_passes, run_over, after_over, after_within, run_none}
 
 -- ---- the table of keywords
 
-abbrev AreWritten : List (List ℕ × Keyword) → Type 0
-AreWritten [] = Unit {0}
-AreWritten (entry ∷ table) = (entry.0 ≡ keyword_text entry.1) × AreWritten table
-
-table_written : AreWritten keyword_table
-table_written = (refl, (refl, (refl, (refl, (refl, (refl, (refl, (refl, (refl, (refl, (refl, (refl, (refl, (refl, (refl, (refl, (refl, (refl, (refl, (refl, (refl, (refl, (refl, (refl, tt))))))))))))))))))))))))
-
-lookup_means : (table : List (List ℕ × Keyword)) (word : List ℕ) (k : Keyword) → AreWritten table → lookup table word ≡ Some k → word ≡ keyword_text k
-lookup_means [] word k written found = absurd (cc)
-lookup_means (entry ∷ table) word k written found =
-    elim (cases_Bool (bytes_eq entry.0 word)) [
+among_means : (keywords : List Keyword) (word : List ℕ) (k : Keyword) → keyword_among keywords word ≡ Some k → word ≡ keyword_text k
+among_means [] word k found = absurd (cc)
+among_means (keyword ∷ keywords) word k found =
+    elim (cases_Bool (bytes_eq (keyword_text keyword) word)) [
       | inl same ↦
-          let here : Some entry.1 ≡ Some k = rw same at found in
-          let text : entry.0 ≡ word = (bytes_eq-Decides entry.0 word).0 same in
-          let kind : entry.1 ≡ k = cc in
-          sym text ∙ written.0 ∙ ap keyword_text kind
-      | inr other ↦ lookup_means table word k written.1 (rw other at found)
+          let here : Some keyword ≡ Some k = rw same at found in
+          let text : keyword_text keyword ≡ word = (bytes_eq-Decides (keyword_text keyword) word).0 same in
+          let kind : keyword ≡ k = cc in
+          sym text ∙ ap keyword_text kind
+      | inr other ↦ among_means keywords word k (rw other at found)
     ]
 
 pub keyword_means : (word : List ℕ) (k : Keyword) → keyword_of word ≡ Some k → word ≡ keyword_text k
 unfolding keyword_of
-keyword_means word k found = lookup_means keyword_table word k table_written found
+keyword_means word k found = among_means all_keywords word k found
 
 pub keyword_found : (k : Keyword) → keyword_of (keyword_text k) ≡ Some k
 unfolding keyword_of
@@ -67,6 +61,22 @@ keyword_found keyword.True = refl
 keyword_found keyword.Enum = refl
 keyword_found keyword.Const = refl
 keyword_found keyword.Unsigned = refl
+
+-- a word is the keyword that is found, or is none
+pub keyword_spelled : (word : List ℕ) (found : Option Keyword) → found ≡ keyword_of word
+    → MatchOption found ((k : Keyword) → word ≢ keyword_text k) (λ k. word ≡ keyword_text k)
+keyword_spelled word None is = λ k same. absurd (cc (is, ap keyword_of same, keyword_found k))
+keyword_spelled word (Some k) is = keyword_means word k (sym is)
+
+-- what such a word is, is found
+pub keyword_is : (word : List ℕ) (found : Option Keyword) → MatchOption found ((k : Keyword) → word ≢ keyword_text k) (λ k. word ≡ keyword_text k)
+    → found ≡ keyword_of word
+keyword_is word None none = by_keyword (keyword_of word) refl
+  where
+    by_keyword : (o : Option Keyword) → keyword_of word ≡ o → None ≡ o
+    by_keyword None is = refl
+    by_keyword (Some k) is = absurd (none k (keyword_means word k is))
+keyword_is word (Some k) same = sym (ap keyword_of same ∙ keyword_found k)
 
 pub keyword_is_word : (k : Keyword) → IsWord (keyword_text k)
 keyword_is_word keyword.Void = (refl, refl)

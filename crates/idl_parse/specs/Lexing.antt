@@ -1,5 +1,5 @@
 -- How a text is cut into pieces, step by step: what each function of the lexer gives, on lists of bytes.
-use Rattle.std.specs.Prelude.{◌≡◌, ℕ, ◌==◌, ◌^◌, ◌-◌, nat_le, if◌then◌else◌, Bool, true, false, ◌&&◌, ◌||◌, List, [], ◌∷◌, map, not, take, drop, slice_index, codes, Option, Some, None, Result, Ok, Err}
+use Rattle.std.specs.Prelude.{◌≡◌, ℕ, ◌==◌, ◌^◌, ◌-◌, nat_le, if◌then◌else◌, Bool, true, false, ◌&&◌, ◌||◌, List, [], ◌∷◌, not, take, drop, slice_index, codes, Option, Some, None, Result, Ok, Err}
 use Rattle.std.specs.List.{list_all}
 use Rattle.std.specs.Option.{option_map}
 use Rattle.std.specs.Char.{is_ascii_alphabetic, is_digit}
@@ -9,13 +9,14 @@ use Rattle.idl_parse.specs.declared.front.Front.{Front as Found}
 use Rattle.idl_parse.specs.declared.kind.Kind.{Kind}
 use Rattle.idl_parse.specs.declared.kind.Kind.TheVariants as kind
 use Rattle.idl_parse.specs.declared.keyword.Keyword.{Keyword}
-use Rattle.idl_parse.specs.declared.keyword.TheConstants.{KEYWORDS}
+use Rattle.idl_parse.specs.declared.keyword.Keyword.TheVariants as words
 use Rattle.idl_parse.specs.declared.sign.Sign.{Sign}
 use Rattle.idl_parse.specs.declared.sign.Sign.TheVariants as sign
 use Rattle.idl_parse.specs.declared.runs.Class.{Class}
 use Rattle.idl_parse.specs.declared.runs.Class.TheVariants.{Word, Decimal, Hexadecimal, Line, LetterOrLow}
 use Rattle.idl_parse.specs.declared.texts.Stop.{Stop}
 use Rattle.idl_parse.specs.declared.texts.Stop.TheVariants.{Quote, Cut, Spoilt}
+use Rattle.idl_parse.specs.Spellings.{keyword_text}
 use Rattle.idl_parse.specs.Bytes.{begins, is_word_byte, is_letter_or_low, is_white, is_feed, is_escaped}
 
 -- what a function returned, seen by view, is what the list gives
@@ -89,15 +90,19 @@ sound_front (kind.Number, in_range, rest) = in_range && not (begins is_letter_or
 sound_front (kind.Fraction, in_range, rest) = in_range && not (begins is_letter_or_low rest)
 sound_front found = true
 
-abbrev pub lookup : {V : Type 0} → List (List ℕ × V) → List ℕ → Option V
-lookup [] word = None
-lookup (entry ∷ table) word = if bytes_eq entry.0 word then Some entry.1 else lookup table word
+abbrev pub keyword_among : List Keyword → List ℕ → Option Keyword
+keyword_among [] word = None
+keyword_among (keyword ∷ keywords) word =
+    if bytes_eq (keyword_text keyword) word then Some keyword else keyword_among keywords word
 
-abbrev pub keyword_table : List (List ℕ × Keyword)
-keyword_table = map (λ entry. (entry.0.now, entry.1)) KEYWORDS
+abbrev pub all_keywords : List Keyword
+all_keywords =
+    words.Void ∷ words.Struct ∷ words.Bool ∷ words.Byte ∷ words.Short ∷ words.Int ∷ words.Long ∷ words.Float
+    ∷ words.Double ∷ words.String ∷ words.Vector ∷ words.Map ∷ words.Key ∷ words.Routekey ∷ words.Module ∷ words.Interface
+    ∷ words.Out ∷ words.Require ∷ words.Optional ∷ words.False ∷ words.True ∷ words.Enum ∷ words.Const ∷ words.Unsigned ∷ []
 
 unfoldable pub keyword_of : List ℕ → Option Keyword
-keyword_of word = lookup keyword_table word
+keyword_of word = keyword_among all_keywords word
 
 abbrev pub kind_of : Option Keyword → Kind
 kind_of None = kind.Ident

@@ -1,5 +1,7 @@
-ghost use Rattle.std.specs.Prelude.{◌≡◌, map};
-ghost use Rattle.idl_parse.specs.Lexing.{lookup, keyword_of};
+ghost use Rattle.std.specs.Prelude.{◌≡◌, ◌≢◌, MatchOption};
+ghost use Rattle.idl_parse.specs.Lexing.{keyword_among, keyword_of};
+ghost use Rattle.idl_parse.specs.Spellings.{keyword_text};
+ghost use Rattle.idl_parse.specs.declared.keyword.Keyword.{Keyword as AKeyword};
 
 /// The words of the interface language, which are no identifiers (docs/IDL.md, "Tokens").
 #[derive(Clone, Copy, Debug, PartialEq, Eq)]
@@ -30,52 +32,94 @@ pub enum Keyword {
     Unsigned,
 }
 
-const KEYWORDS: [(&[u8], Keyword); 24] = [
-    (b"void", Keyword::Void),
-    (b"struct", Keyword::Struct),
-    (b"bool", Keyword::Bool),
-    (b"byte", Keyword::Byte),
-    (b"short", Keyword::Short),
-    (b"int", Keyword::Int),
-    (b"long", Keyword::Long),
-    (b"float", Keyword::Float),
-    (b"double", Keyword::Double),
-    (b"string", Keyword::String),
-    (b"vector", Keyword::Vector),
-    (b"map", Keyword::Map),
-    (b"key", Keyword::Key),
-    (b"routekey", Keyword::Routekey),
-    (b"module", Keyword::Module),
-    (b"interface", Keyword::Interface),
-    (b"out", Keyword::Out),
-    (b"require", Keyword::Require),
-    (b"optional", Keyword::Optional),
-    (b"false", Keyword::False),
-    (b"true", Keyword::True),
-    (b"enum", Keyword::Enum),
-    (b"const", Keyword::Const),
-    (b"unsigned", Keyword::Unsigned),
+/// All keywords.
+const KEYWORDS: [Keyword; 24] = [
+    Keyword::Void,
+    Keyword::Struct,
+    Keyword::Bool,
+    Keyword::Byte,
+    Keyword::Short,
+    Keyword::Int,
+    Keyword::Long,
+    Keyword::Float,
+    Keyword::Double,
+    Keyword::String,
+    Keyword::Vector,
+    Keyword::Map,
+    Keyword::Key,
+    Keyword::Routekey,
+    Keyword::Module,
+    Keyword::Interface,
+    Keyword::Out,
+    Keyword::Require,
+    Keyword::Optional,
+    Keyword::False,
+    Keyword::True,
+    Keyword::Enum,
+    Keyword::Const,
+    Keyword::Unsigned,
 ];
 
-/// What the table has for the word.
-fn lookup(mut table: &[(&[u8], Keyword)], word: &[u8]) -> Option<Keyword>
-    ensures { result ≡ lookup (map (λ entry. (entry.0.now, entry.1)) table.entry.now) word.now }
+/// The keyword among these that is written so.
+fn keyword_among(mut keywords: &[Keyword], word: &[u8]) -> Option<Keyword>
+    ensures { result ≡ keyword_among keywords.entry.now word.now }
 {
-    while let [entry, rest @ ..] = table {
-        if entry.0 == word {
-            return Some(entry.1);
+    while let [keyword, rest @ ..] = keywords {
+        if keyword.text() == word {
+            return Some(*keyword);
         }
-        table = rest;
+        keywords = rest;
     }
     None
 }
 
+/// The keyword that is written so, for the lexer.
+#[tactic(auto, unfolding(crate::specs::Lexing::keyword_of))]
+pub(crate) fn keyword_of(word: &[u8]) -> Option<Keyword>
+    ensures { result ≡ keyword_of word.now }
+{
+    keyword_among(&KEYWORDS, word)
+}
+
 impl Keyword {
-    /// The keyword that is written so.
-    #[tactic(auto, unfolding(crate::specs::Lexing::keyword_of))]
-    pub(crate) fn from_word(word: &[u8]) -> Option<Keyword>
-        ensures { result ≡ keyword_of word.now }
+    /// How the keyword is written.
+    pub fn text(self) -> &'static [u8]
+        ensures { result.now ≡ keyword_text self }
     {
-        lookup(&KEYWORDS, word)
+        match self {
+            Keyword::Void => b"void",
+            Keyword::Struct => b"struct",
+            Keyword::Bool => b"bool",
+            Keyword::Byte => b"byte",
+            Keyword::Short => b"short",
+            Keyword::Int => b"int",
+            Keyword::Long => b"long",
+            Keyword::Float => b"float",
+            Keyword::Double => b"double",
+            Keyword::String => b"string",
+            Keyword::Vector => b"vector",
+            Keyword::Map => b"map",
+            Keyword::Key => b"key",
+            Keyword::Routekey => b"routekey",
+            Keyword::Module => b"module",
+            Keyword::Interface => b"interface",
+            Keyword::Out => b"out",
+            Keyword::Require => b"require",
+            Keyword::Optional => b"optional",
+            Keyword::False => b"false",
+            Keyword::True => b"true",
+            Keyword::Enum => b"enum",
+            Keyword::Const => b"const",
+            Keyword::Unsigned => b"unsigned",
+        }
+    }
+
+    /// The keyword that is written so.
+    #[tactic(auto, using(crate::proofs::WordLaws::keyword_spelled))]
+    pub fn from_word(word: &[u8]) -> Option<Keyword>
+        ensures { MatchOption result ((keyword : AKeyword) → word.now ≢ keyword_text keyword)
+            (λ keyword. word.now ≡ keyword_text keyword) }
+    {
+        keyword_of(word)
     }
 }

@@ -6,7 +6,7 @@ ghost use Rattle.idl_parse.specs.Lexing.{Gives};
 ghost use Rattle.idl_parse.specs.Lexing.{front_of};
 
 use crate::front::Front;
-use crate::keyword::Keyword;
+use crate::keyword::keyword_of;
 use crate::kind::Kind;
 use crate::numbers::number;
 use crate::runs::{Class, is_in, split_run};
@@ -18,7 +18,7 @@ fn word(bytes: &[u8]) -> Front<'_>
     ensures { front_of result ≡ spec.word_at bytes.now }
 {
     let (word, rest) = split_run(bytes, Class::Word);
-    let kind = match Keyword::from_word(word) {
+    let kind = match keyword_of(word) {
         Some(keyword) => Kind::Keyword(keyword),
         None => Kind::Ident,
     };

@@ -11,7 +11,8 @@ use Rattle.session.specs.declared.loaded.Event.TheVariants.{Call}
 use Rattle.session.specs.declared.pending.Pending.{Pending}
 use Rattle.session.specs.declared.plan.Plan.{Plan}
 use Rattle.session.specs.declared.report.Refusal.TheVariants as refusal
-use Rattle.session.specs.Courses.{WIDTH, Course, Opened, opened, opened_among, with_id, closed_call, began, not_sent, open_under, live_node, step, sent_frame, answer_frame, joined}
+use Rattle.session.specs.Courses.{Course, Opened, opened, opened_among, with_id, closed_call, began, not_sent, open_under, step, sent_frame, answer_frame, joined}
+use Rattle.session.specs.Sessions.{WIDTH, live_node}
 use Rattle.session.specs.Planned.{sent_row, got_rows}
 use Rattle.session.specs.Services.{AreTwoInts}
 use Rattle.session.specs.Tracks.{Tracks, IsOpened, request_frames}

@@ -8,7 +8,8 @@ use Rattle.session.specs.Words.{is_letter, IsName, is_number}
 use Rattle.session.specs.Reading.{int_of, EventValue, event_meant}
 use Rattle.session.specs.Reading as value
 use Rattle.wire_words.specs.Bind.{◌>>=◌}
-use Rattle.session.specs.ScriptText.{EventText, event_line, IsEvent, MAX_LINE}
+use Rattle.session.specs.ScriptText.{EventText, event_line, IsEvent}
+use Rattle.session.specs.TextLimits.{MAX_LINE}
 use Rattle.session.specs.ScriptText as script
 use Rattle.session.specs.ScriptSteps.{call_on, event_on, short, events_on}
 use Rattle.session.proofs.Readers.{IsWhole, bind_some, bind_is, some_is, skip_whole, before_front, and_whole, map_whole}

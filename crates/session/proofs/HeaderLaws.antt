@@ -6,7 +6,8 @@ use Rattle.std.specs.Str.Parse.{digits_value}
 use Rattle.std.proofs.lemmas.Bool.{and_parts, and_from, leb-true, le-leb, cond-true}
 use Rattle.std.proofs.lemmas.List.Folds.{list_all-append}
 use Rattle.session.specs.Words.{is_letter, IsName, IsNaturalWithin}
-use Rattle.session.specs.ScriptText.{IsFileName, IsWordOf, is_part_byte, is_host_byte, MAX_LINE}
+use Rattle.session.specs.ScriptText.{IsFileName, IsWordOf, is_part_byte, is_host_byte}
+use Rattle.session.specs.TextLimits.{MAX_PORT, MAX_TIMEOUT, MAX_LINE}
 use Rattle.session.specs.Scan.{utf8, before, ◌&>◌}
 use Rattle.session.specs.ScriptSteps.{is_word_of, is_file_byte, file_name, client_at, interface_at, servant_at, part, host, id, node, object_at, HeaderValue, header_from, header_at}
 use Rattle.session.proofs.Readers.{chosen, lacks, IsWhole, bind_some, bind_is, some_is, tested_whole, skip_whole, before_front, and_whole}
@@ -88,7 +89,7 @@ abbrev pub node_written : Node → List ℕ
 node_written n = (n.0 ++ codes " -p ") ++ ((n.1.0 ++ codes " -t ") ++ n.1.1)
 
 abbrev pub IsNode : Node → Type 0
-IsNode n = IsWordOf is_host_byte n.0 × (IsNaturalWithin 1 65535 n.1.0 × IsNaturalWithin 1 3600000 n.1.1)
+IsNode n = IsWordOf is_host_byte n.0 × (IsNaturalWithin 1 MAX_PORT n.1.0 × IsNaturalWithin 1 MAX_TIMEOUT n.1.1)
 
 abbrev pub node_meant : Node → List ℕ × (ℕ × ℕ)
 node_meant n = (n.0, (digits_value 10 n.1.0, digits_value 10 n.1.1))
@@ -97,8 +98,8 @@ node_whole : IsWhole node node_written IsNode node_meant
 unfolding node
 node_whole =
     let host_front = before_front 32 (codes "-p ") host_whole (λ word is. lacks_from is_host_byte 32 word refl is.each) in
-    let port_front = before_front 32 (codes "-t ") (natural_within_whole 1 65535 (omega arith)) (λ text is. natural_lacks 32 text refl is.form) in
-    and_whole host_front (and_whole port_front (natural_within_whole 1 3600000 (omega arith)))
+    let port_front = before_front 32 (codes "-t ") (natural_within_whole 1 MAX_PORT (omega arith)) (λ text is. natural_lacks 32 text refl is.form) in
+    and_whole host_front (and_whole port_front (natural_within_whole 1 MAX_TIMEOUT (omega arith)))
 
 -- ---- the four lines
 

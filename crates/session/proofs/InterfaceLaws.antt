@@ -1,7 +1,6 @@
 -- How an interface file is judged, by what the two readers of it answer.
-use Rattle.std.proofs.Common.{◌≡◌, ◌<◌, ◌≤◌, ℕ, List, ◌++◌, length, Some, None, refl, sym, ap, subst, ◌∙◌, arith, codes}
+use Rattle.std.proofs.Common.{◌≡◌, ◌<◌, ◌≤◌, ℕ, List, length, Some, None, refl, sym, ap, subst, ◌∙◌, arith}
 use Rattle.std.specs.Prelude.{Result, Ok, Err, IfSome, IsErr, IsErrAnd}
-use Rattle.std.specs.Fmt.{decimal}
 use Rattle.std.proofs.lemmas.Option.{none-some}
 use Rattle.idl_parse.specs.declared.lex_fault.LexFault.{LexFault}
 use Rattle.idl_parse.specs.declared.lex_fault.LexFault.TheVariants as lexes
@@ -14,21 +13,21 @@ use Rattle.idl_parse.specs.declared.tree.module.Entry.{Entry}
 use Rattle.idl_parse.specs.Faults.{IsFault}
 use Rattle.idl_parse.specs.Grammar.{nesting_limit, IsFile}
 use Rattle.idl_parse.specs.LexAnswers.{GivesTokens, GivesFault, IsFaultOf}
-use Rattle.idl_parse.specs.LexWhy.{number_of}
 use Rattle.idl_parse.specs.Parsed.{IsRead, IsRefused, HasFault}
-use Rattle.idl_parse.specs.ParseWhy.{number_of as parse_number_of}
 use Rattle.idl_parse.specs.Tokens.{Tokens, IsLexFault}
 use Rattle.tars_base.specs.Contents.{HoldsOnly}
+use Rattle.session.specs.declared.interface_fault.FileFault.TheVariants.{TooLong, Lex, Parse, Shape}
 use Rattle.session.specs.declared.interface_fault.InterfaceFault.{InterfaceFault}
 use Rattle.session.specs.declared.interface_file.InterfaceText.{InterfaceText as InterfaceStruct}
-use Rattle.session.specs.InterfaceFile.{MAX_FILE, InterfaceText, Verdict, accepted, refused, IsJudged, too_long, no_tokens, no_file, another_shape, one_function, interface_in}
+use Rattle.session.specs.InterfaceFile.{InterfaceText, Verdict, accepted, refused, IsJudged, too_long, no_tokens, no_file, another_shape, one_function, interface_in}
+use Rattle.session.specs.TextLimits.{MAX_FILE}
 use Rattle.session.specs.InterfaceVerdicts.{verdict_of, lex_refused, parse_refused}
 use Rattle.session.proofs.Readers.{some_is}
 
-pub judged_long : (bytes : List ℕ) → MAX_FILE < length bytes → HoldsOnly (IsJudged bytes) (refused (codes "parse 5 0"))
+pub judged_long : (bytes : List ℕ) → MAX_FILE < length bytes → HoldsOnly (IsJudged bytes) (refused TooLong)
 judged_long bytes long = record { holds = too_long long; only = only_this }
   where
-    only_this : (other : Verdict) → IsJudged bytes other → other ≡ refused (codes "parse 5 0")
+    only_this : (other : Verdict) → IsJudged bytes other → other ≡ refused TooLong
     only_this other (too_long long) = refl
     only_this other (no_tokens at why within fault) = absurd (omega (arith, long, within))
     only_this other (no_file tokens at why within lexed fault) = absurd (omega (arith, long, within))
@@ -42,7 +41,7 @@ pub judged_lex : (bytes : List ℕ) (fault : LexFault) → length bytes ≤ MAX_
 judged_lex bytes lexes.Memory within is none one = tt
 judged_lex bytes (lexes.Bad at why) within is none one = record { holds = no_tokens at why within is; only = only_this }
   where
-    only_this : (other : Verdict) → IsJudged bytes other → other ≡ refused (codes "lex " ++ decimal (number_of why) ++ codes " " ++ decimal at)
+    only_this : (other : Verdict) → IsJudged bytes other → other ≡ refused (Lex at why)
     only_this other (too_long long) = absurd (omega (arith, long, within))
     only_this other (no_tokens a w short fault) = let same = one a w fault in cc
     only_this other (no_file tokens a w short lexed fault) = absurd (none tokens lexed)
@@ -63,7 +62,7 @@ pub judged_parse : (bytes : List ℕ) (tokens : List Token) (fault : ParseFault)
 judged_parse bytes tokens parses.Memory lexed is none one = tt
 judged_parse bytes tokens (parses.Bad at why) lexed is none one = record { holds = no_file tokens at why lexed.within lexed.are is; only = only_this }
   where
-    only_this : (other : Verdict) → IsJudged bytes other → other ≡ refused (codes "parse " ++ decimal (parse_number_of why) ++ codes " " ++ decimal at)
+    only_this : (other : Verdict) → IsJudged bytes other → other ≡ refused (Parse at why)
     only_this other (too_long long) = absurd (omega (arith, long, lexed.within))
     only_this other (no_tokens a w short fault) = absurd (lexed.sound a w fault)
     only_this other (no_file ts a w short are fault) =
@@ -78,13 +77,13 @@ pub record Parsed (bytes : List ℕ) (tokens : List Token) (entries : List Entry
   pub sound : (at : ℕ) (why : ParseWhy) → IsFault nesting_limit (length bytes) tokens at why → ⊥
 
 pub judged_shape : (bytes : List ℕ) (tokens : List Token) (entries : List Entry) → Lexed bytes tokens → Parsed bytes tokens entries
-    → interface_in bytes entries ≡ None → HoldsOnly (IsJudged bytes) (refused (codes "check 11 0"))
+    → interface_in bytes entries ≡ None → HoldsOnly (IsJudged bytes) (refused Shape)
 judged_shape bytes tokens entries lexed p shape = record { holds = another_shape tokens entries lexed.within lexed.are p.is shape; only = only_this }
   where
     same_file : (ts : List Token) (file : List Entry) → Tokens bytes ts → IsFile nesting_limit ts file → entries ≡ file
     same_file ts file are is = p.only file (subst (λ (l : List Token). IsFile nesting_limit l file) (sym (lexed.only ts are)) is)
 
-    only_this : (other : Verdict) → IsJudged bytes other → other ≡ refused (codes "check 11 0")
+    only_this : (other : Verdict) → IsJudged bytes other → other ≡ refused Shape
     only_this other (too_long long) = absurd (omega (arith, long, lexed.within))
     only_this other (no_tokens a w short fault) = absurd (lexed.sound a w fault)
     only_this other (no_file ts a w short are fault) = absurd (p.sound a w (subst (λ (l : List Token). IsFault nesting_limit (length bytes) l a w) (sym (lexed.only ts are)) fault))

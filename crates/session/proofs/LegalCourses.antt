@@ -10,7 +10,8 @@ use Rattle.session.specs.declared.report.End.{End}
 use Rattle.session.specs.declared.report.End.TheVariants.{Closed}
 use Rattle.session.specs.declared.report.Refusal.TheVariants as refusal
 use Rattle.session.specs.declared.service.Service.{Service}
-use Rattle.session.specs.Courses.{WIDTH, Opened, opened_among, with_id, not_sent, open_under, live_node, is_open_under, settle, outcome, fate_of, closed_call}
+use Rattle.session.specs.Courses.{Opened, opened_among, with_id, not_sent, open_under, is_open_under, settle, outcome, fate_of, closed_call}
+use Rattle.session.specs.Sessions.{WIDTH, live_node}
 use Rattle.session.specs.Services.{AreTwoInts, reply_to}
 use Rattle.session.specs.Tracks.{IsOpened}
 use Rattle.session.specs.Legal.{Scripted}

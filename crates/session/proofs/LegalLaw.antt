@@ -5,20 +5,25 @@ use Rattle.std.proofs.lemmas.List.{take-map, take-take}
 use Rattle.wire_words.specs.Packets.{packets_of}
 use Rattle.session.specs.declared.link_log.GotFate.{GotFate}
 use Rattle.session.specs.declared.link_log.GotRow.{GotRow}
+use Rattle.tars_model.specs.declared.value.Value.{Value}
 use Rattle.session.specs.declared.loaded.Loaded.{Loaded}
+use Rattle.session.specs.declared.loaded.Rule.{Rule}
+use Rattle.session.specs.declared.loaded.Rule.TheVariants.{Add}
 use Rattle.session.specs.declared.pending.Pending.{Pending}
 use Rattle.session.specs.declared.report.CallId.{CallId}
 use Rattle.session.specs.declared.report.End.TheVariants.{Closed, Refused}
 use Rattle.session.specs.declared.report.Refusal.TheVariants as refusal
 use Rattle.session.specs.declared.report.Row.{Row}
 use Rattle.session.specs.declared.service.Service.{Service}
-use Rattle.session.specs.Courses.{WIDTH, Course, Opened, opened, answer_frame, outcome, joined, received, after_all}
+use Rattle.session.specs.Courses.{Course, Opened, opened, answer_frame, joined, received, after_all}
+use Rattle.session.specs.Replies.{reply_by}
+use Rattle.session.specs.Sessions.{WIDTH, rule_of}
 use Rattle.session.specs.Planned.{row_of, sent_row, got_rows, reported_step, report_of, link_log, planned}
-use Rattle.session.specs.Services.{IsService, reply_to, service_of}
+use Rattle.session.specs.Services.{IsService, left_of, right_of, reply_to, service_of}
 use Rattle.session.specs.ScriptText.{EventText, call, serve, work, deliver, close}
 use Rattle.session.specs.Loading.{IsLoaded, events_from}
 use Rattle.session.specs.Tracks.{IsOpened}
-use Rattle.session.specs.Legal.{Scripted, scripted, scripted_after, sent_before, IsUsedId, IsReplied, IsRefusal, pick_of, packet_of, picked_of, IsSentAs, IsRowAt, AreRefused, AreSent, AreReplied, IsLegal}
+use Rattle.session.specs.Legal.{Scripted, scripted, scripted_after, sent_before, IsUsedId, IsReplied, IsRefusal, Says, pick_of, packet_of, picked_of, IsSentAs, IsRowAt, AreRefused, AreSent, AreReplied, IsLegal}
 use Rattle.session.proofs.FramesArePackets.{answers_are_packets}
 use Rattle.session.proofs.LoadedLemmas.{service_sound}
 use Rattle.session.proofs.Lists.{All-take}
@@ -115,6 +120,14 @@ sent_right l c h t =
           (ap (λ (r : Row). r.id) (sym p.row_is) ∙ own));
     }
 
+-- the service replies by the session's rule
+rule_parts : (r : Rule) → Add (left_of r) (right_of r) ≡ r
+rule_parts (Add left right) = refl
+
+replies_by_rule : (l : Loaded) (args : List Value) → reply_to (service_of l) args ≡ reply_by (rule_of l) args
+unfolding service_of
+replies_by_rule l args = ap (λ (r : Rule). reply_by r args) (rule_parts (rule_of l))
+
 replied_right : (l : Loaded) (c : Course) → IsLoaded l → IsSoundCourse (service_of l) (scripted l.events) c
     → AreReplied l (map row_of c.calls) (all_got_rows (service_of l) (opened c) c.fates)
 replied_right l c h t =
@@ -123,8 +136,10 @@ replied_right l c h t =
     record {
       rule = λ k row x packet e f place.
           let p = at os c.fates t.calls refl refl k row e in
-          subst (λ (y : Scripted). row.end ≡ outcome packet (reply_to s y.spec.args)) (one_call x p f)
-          (ap (λ (r : Row). r.end) p.row_is ∙ rule_exactly packet p.is (ap (λ (r : Row). packet_of r.end) (sym p.row_is) ∙ place));
+          subst (λ (y : Scripted). Says row.end (reply_by (rule_of l) y.spec.args)) (one_call x p f)
+          (on_row (λ (r : Row). Says r.end (reply_by (rule_of l) p.x.spec.args)) p
+          (subst (Says (row_of p.call).end) (replies_by_rule l p.x.spec.args)
+          (rule_exactly packet p.is (ap (λ (r : Row). packet_of r.end) (sym p.row_is) ∙ place))));
       packets = λ k row e.
           let p = at os c.fates t.calls refl refl k row e in
           subst (λ (r : Row). IsReplied l (all_got_rows s os c.fates) r r.end) (sym p.row_is)
@@ -154,7 +169,7 @@ legal_course l c h t =
       link = link_log s c;
       one_link = refl;
       node = refl;
-      whole = (refl, refl);
+      whole = (refl, refl, refl);
       rows = headings t.calls ∙ scripted_calls false l.events;
       ids = ids_rise t.calls;
       refusals = refused_right l c t;

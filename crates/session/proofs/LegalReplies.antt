@@ -12,7 +12,8 @@ use Rattle.session.specs.declared.report.Row.{Row}
 use Rattle.session.specs.declared.service.Service.{Service}
 use Rattle.session.specs.Courses.{Opened, outcome, answer_frame}
 use Rattle.session.specs.Planned.{row_of, got_rows}
-use Rattle.session.specs.Services.{Reply, sum, code, UNKNOWN, reply_to, response_with, service_of}
+use Rattle.session.specs.Services.{reply_to, response_with, service_of}
+use Rattle.session.specs.Replies.{Reply, sum, code, UNKNOWN}
 use Rattle.session.specs.RpcPackets.{response_frame}
 use Rattle.session.specs.Legal.{Scripted, IsUsedPacket, IsUsedId, IsReplied, packet_of}
 use Rattle.session.proofs.LegalCourses.{IsSound, none, full, late, waits, stopped, missed, replied, ended, opened_as}

@@ -17,10 +17,12 @@ use Rattle.session.specs.declared.report.Refusal.{Refusal}
 use Rattle.session.specs.declared.report.Refusal.TheVariants as refusal
 use Rattle.session.specs.declared.report.Row.{Row}
 use Rattle.session.specs.declared.service.Service.{Service}
-use Rattle.session.specs.Courses.{WIDTH, Opened, opened_among, not_sent, open_under, live_node, outcome}
+use Rattle.session.specs.Courses.{Opened, opened_among, not_sent, open_under, outcome}
+use Rattle.session.specs.Sessions.{WIDTH, live_node}
 use Rattle.session.specs.Planned.{row_of, sent_row, picked_step, reported_step}
-use Rattle.session.specs.Services.{Reply, sum, code, reply_to, service_of}
-use Rattle.session.specs.Legal.{Scripted, scripted_after, call_of, heading_of, heading_of_call, was_sent, sent_before, ids_of, RiseAbove, IsRefusal, pick_of, packet_of, picked_of, reported_of, IsSentAs}
+use Rattle.session.specs.Services.{reply_to, service_of}
+use Rattle.session.specs.Replies.{Reply, sum, code}
+use Rattle.session.specs.Legal.{Scripted, scripted_after, call_of, heading_of, heading_of_call, was_sent, sent_before, ids_of, RiseAbove, IsRefusal, Says, pick_of, packet_of, picked_of, reported_of, IsSentAs}
 use Rattle.session.proofs.LegalCourses.{IsSound, none, full, late, waits, stopped, missed, replied, ended, opened_as}
 use Rattle.session.proofs.Readers.{some_is}
 
@@ -40,9 +42,9 @@ pub scripted_calls : (closed : Bool) (es : List Event)
     → map (λ (x : Scripted). heading_of_call x.spec) (scripted_after closed es) ≡ map heading_of_call (filter_map call_of es)
 scripted_calls closed [] = refl
 scripted_calls closed (Call spec ∷ es) = ap (λ hs. heading_of_call spec ∷ hs) (scripted_calls closed es)
-scripted_calls closed (Serve ∷ es) = scripted_calls closed es
-scripted_calls closed (Work ∷ es) = scripted_calls closed es
-scripted_calls closed (Deliver ∷ es) = scripted_calls closed es
+scripted_calls closed (Serve node bytes ∷ es) = scripted_calls closed es
+scripted_calls closed (Work node ∷ es) = scripted_calls closed es
+scripted_calls closed (Deliver node bytes ∷ es) = scripted_calls closed es
 scripted_calls closed (Close ∷ es) = scripted_calls true es
 
 pub ids_rise : {s : Service} {n : ℕ} {xs : List Scripted} {calls : List Pending} {args : List (List Value)} {fates : List GotFate}
@@ -234,19 +236,19 @@ picked_exactly (is_stopped h c f o) = refl
 picked_exactly (is_missed h c f o) = refl
 picked_exactly {s = s} {n = n} {x = x} (is_replied h c f o) = outcome_picks (n + 1) (reply_to s x.spec.args)
 
-outcome_names : (packet place : ℕ) (r : Reply) → packet_of (outcome place r) ≡ Some packet → packet ≡ place
-outcome_names packet place (sum n) e = cc
-outcome_names packet place (code n) e = cc
+outcome_says : (packet : ℕ) (r : Reply) → Says (outcome packet r) r
+outcome_says packet (sum n) = refl
+outcome_says packet (code n) = refl
 
 pub rule_exactly : {s : Service} {n : ℕ} {x : Scripted} {fate : Option GotFate} {own : Option Opened} {call : Pending} (packet : ℕ)
-    → IsCall s n x fate own call → packet_of (row_of call).end ≡ Some packet → (row_of call).end ≡ outcome packet (reply_to s x.spec.args)
+    → IsCall s n x fate own call → packet_of (row_of call).end ≡ Some packet → Says (row_of call).end (reply_to s x.spec.args)
 rule_exactly packet (is_full h) e = absurd (cc)
 rule_exactly packet (is_late h c) e = absurd (cc)
 rule_exactly packet (is_open h c f o) e = absurd (cc)
 rule_exactly packet (is_stopped h c f o) e = absurd (cc)
 rule_exactly packet (is_missed h c f o) e = absurd (cc)
 rule_exactly {s = s} {n = n} {x = x} packet (is_replied h c f o) e =
-    ap (λ (m : ℕ). outcome m (reply_to s x.spec.args)) (sym (outcome_names packet (n + 1) (reply_to s x.spec.args) e))
+    outcome_says (n + 1) (reply_to s x.spec.args)
 
 -- What was sent.
 

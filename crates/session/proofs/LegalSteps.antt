@@ -12,7 +12,8 @@ use Rattle.session.specs.declared.loaded.Event.TheVariants.{Call, Serve, Work, D
 use Rattle.session.specs.declared.loaded.Loaded.{Loaded}
 use Rattle.session.specs.declared.report.Refusal.TheVariants as refusal
 use Rattle.session.specs.declared.service.Service.{Service}
-use Rattle.session.specs.Courses.{WIDTH, Course, Opened, start, opened, opened_among, with_id, began, not_sent, open_under, live_node, got, closed_call, sent_frame, answer_frame, joined, offered, answers_stream, step, after_all}
+use Rattle.session.specs.Courses.{Course, Opened, start, opened, opened_among, with_id, began, not_sent, open_under, got, closed_call, sent_frame, answer_frame, joined, offered, answers_stream, step, after_all}
+use Rattle.session.specs.Sessions.{WIDTH, NODE, live_node}
 use Rattle.session.specs.Services.{IsService, AreTwoInts, HaveInts, service_of}
 use Rattle.session.specs.Loading.{IsLoaded}
 use Rattle.session.specs.Legal.{Scripted, scripted, scripted_after}
@@ -90,7 +91,7 @@ called s xs c spec t ints =
 
 -- The node reads and answers.
 
-served : (s : Service) (xs : List Scripted) (c : Course) → IsSoundCourse s xs c → IsSoundCourse s xs (step s c Serve)
+served : (s : Service) (xs : List Scripted) (c : Course) → IsSoundCourse s xs c → IsSoundCourse s xs (step s c (Serve NODE None))
 served s xs c t = record {
   calls = t.calls;
   ints = t.ints;
@@ -108,7 +109,7 @@ requests_offered s xs c t h =
     ∙ ap length (first_packets t.requests (map (sent_frame s) (opened c)) (requests_are_packets s (opened c) h (opened_are t.calls t.ints)))
     ∙ taken_len (sent_frame s) (opened c) t.requests t.requests_within
 
-worked : (s : Service) (xs : List Scripted) (c : Course) → IsService s → IsSoundCourse s xs c → IsSoundCourse s xs (step s c Work)
+worked : (s : Service) (xs : List Scripted) (c : Course) → IsService s → IsSoundCourse s xs c → IsSoundCourse s xs (step s c (Work NODE))
 worked s xs c h t = go (nat_lt c.answered (length (offered s c))) refl
   where
     go : (b : Bool) → nat_lt c.answered (length (offered s c)) ≡ b → IsSoundCourse s xs (cond b (record c { answered = c.answered + 1 }) c)
@@ -152,7 +153,7 @@ all_got s xs a (o ∷ os) c h e =
     (rw (got_fates s c o, got_opened s c o, add-one) p.1)
 
 delivered : (s : Service) (xs : List Scripted) (c : Course) → IsSoundCourse s xs c
-    → IsSoundCourse s xs (step s c Deliver) × ((step s c Deliver).closed ≡ c.closed)
+    → IsSoundCourse s xs (step s c (Deliver NODE None)) × ((step s c (Deliver NODE None)).closed ≡ c.closed)
 delivered s xs c t =
     let os = drop (length c.fates) (take c.answered (opened c)) in
     let r : Comes s c (map (λ (f : GotFate). []) c.fates) os = comes s c (map (λ (f : GotFate). []) c.fates) os (length-map c.fates (λ (f : GotFate). [])) in
@@ -207,18 +208,18 @@ runs s (Call spec ∷ es) xs c h ints t =
     let y : Scripted = record { spec = spec; closed = c.closed } in
     subst (λ (ys : List Scripted). IsSoundCourse s ys (fold (step s) (after_call c spec) es)) (append_assoc xs (y ∷ []) (scripted_after c.closed es))
     (runs s es (xs ++ y ∷ []) (after_call c spec) h ints.1 (called s xs c spec t ints.0))
-runs s (Serve ∷ es) xs c h ints t = runs s es xs (step s c Serve) h ints.1 (served s xs c t)
-runs s (Work ∷ es) xs c h ints t =
-    subst (λ (b : Bool). IsSoundCourse s (xs ++ scripted_after b es) (fold (step s) (step s c Work) es)) (work_closed (nat_lt c.answered (length (offered s c))))
-    (runs s es xs (step s c Work) h ints.1 (worked s xs c h t))
+runs s (Serve node bytes ∷ es) xs c h ints t = runs s es xs (step s c (Serve NODE None)) h ints.1 (served s xs c t)
+runs s (Work node ∷ es) xs c h ints t =
+    subst (λ (b : Bool). IsSoundCourse s (xs ++ scripted_after b es) (fold (step s) (step s c (Work NODE)) es)) (work_closed (nat_lt c.answered (length (offered s c))))
+    (runs s es xs (step s c (Work NODE)) h ints.1 (worked s xs c h t))
   where
     work_closed : (b : Bool) → (cond b (record c { answered = c.answered + 1 }) c).closed ≡ c.closed
     work_closed true = refl
     work_closed false = refl
-runs s (Deliver ∷ es) xs c h ints t =
+runs s (Deliver node bytes ∷ es) xs c h ints t =
     let d = delivered s xs c t in
-    subst (λ (b : Bool). IsSoundCourse s (xs ++ scripted_after b es) (fold (step s) (step s c Deliver) es)) d.1
-    (runs s es xs (step s c Deliver) h ints.1 d.0)
+    subst (λ (b : Bool). IsSoundCourse s (xs ++ scripted_after b es) (fold (step s) (step s c (Deliver NODE None)) es)) d.1
+    (runs s es xs (step s c (Deliver NODE None)) h ints.1 d.0)
 runs s (Close ∷ es) xs c h ints t = runs s es xs (step s c Close) h ints.1 (closed s xs c t)
 
 pub run_sound : (l : Loaded) → IsLoaded l → IsSoundCourse (service_of l) (scripted l.events) (after_all (service_of l) l.events)

@@ -3,7 +3,7 @@ use Rattle.std.proofs.Common.{◌≡◌, ℕ, ◌<◌, ◌≤◌, true, leb, ltb
 use Rattle.std.proofs.lemmas.Bool.{cases_Bool, lt-ltb, leb-true, le-leb, cond-true}
 use Rattle.wire_words.specs.Bind.{◌>>=◌}
 use Rattle.session.specs.Scan.{Whole, Front, ◌&◌}
-use Rattle.session.specs.ScriptText.{MAX_LINE}
+use Rattle.session.specs.TextLimits.{MAX_LINE}
 use Rattle.session.specs.ScriptSteps.{line_at, on_line, lines_of, short}
 use Rattle.session.proofs.Readers.{chosen, IsWhole, bind_some, bind_is, some_is}
 use Rattle.session.proofs.Lines.{first_line, behind_line, lines_of_first}

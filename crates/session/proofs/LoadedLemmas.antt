@@ -5,12 +5,14 @@ use Rattle.std.specs.Str.{bytes_eq}
 use Rattle.session.specs.declared.loaded.Loaded.{Loaded}
 use Rattle.session.specs.declared.service.Service.{Service}
 use Rattle.session.specs.InterfaceFile.{InterfaceText}
-use Rattle.session.specs.ScriptText.{ScriptText, IsScriptText, ObjectText, EventText, call, serve, work, deliver, close, object_id, object_line, MAX_LINE}
+use Rattle.session.specs.ScriptText.{ScriptText, IsScriptText, ObjectText, EventText, call, serve, work, deliver, close, object_id, object_line}
+use Rattle.session.specs.RpcPackets.{MAX_TEXT}
+use Rattle.session.specs.TextLimits.{MAX_NAME, MAX_LINE}
 use Rattle.session.specs.Loading.{IsLoaded, loaded_of, place_of, events_from, IsEventOf}
 use Rattle.session.specs.Services.{IsService, HaveInts, service_of}
 
 -- an object's id is part of a line
-id_short : (o : ObjectText) → length (object_line o) ≤ MAX_LINE → length (object_id o) ≤ 4096
+id_short : (o : ObjectText) → length (object_line o) ≤ MAX_LINE → length (object_id o) ≤ MAX_TEXT
 unfolding object_line
 id_short o h = let g = simp length-append at h in omega arith
 
@@ -21,7 +23,7 @@ place_small i name = go (bytes_eq name i.first)
     go true = omega arith
     go false = omega arith
 
-service_loaded : (s : ScriptText) (i : InterfaceText) (bytes : List ℕ) → IsScriptText s bytes → length i.func ≤ 32 → IsService (service_of (loaded_of s i))
+service_loaded : (s : ScriptText) (i : InterfaceText) (bytes : List ℕ) → IsScriptText s bytes → length i.func ≤ MAX_NAME → IsService (service_of (loaded_of s i))
 unfolding service_of
 service_loaded s i bytes h name = record {
   id_short = id_short s.object h.short.1.1.0;
@@ -40,7 +42,7 @@ service_loaded s i bytes h name = record {
 pub service_sound : (l : Loaded) → IsLoaded l → IsService (service_of l)
 service_sound l h =
     subst (λ (x : Loaded). IsService (service_of x)) (sym h.is)
-    (service_loaded h.script h.interface h.script_bytes h.script_form (subst (λ (func : List ℕ). length func ≤ 32) h.agree.func h.script_form.func.short))
+    (service_loaded h.script h.interface h.script_bytes h.script_form (subst (λ (func : List ℕ). length func ≤ MAX_NAME) h.agree.func h.script_form.func.short))
 
 pub sound_as : (l : Loaded) (s : Service) → IsLoaded l → s ≡ service_of l → IsService s
 sound_as l s h e = subst IsService (sym e) (service_sound l h)

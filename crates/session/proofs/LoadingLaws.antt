@@ -7,17 +7,22 @@ use Rattle.session.specs.declared.load_fault.LoadFault.{LoadFault}
 use Rattle.session.specs.declared.load_fault.LoadFault.TheVariants.{Refused, Read, Memory}
 use Rattle.session.specs.declared.loaded.Loaded.{Loaded}
 use Rattle.session.specs.declared.script.ScriptText.{ScriptText as ScriptStruct}
-use Rattle.session.specs.InterfaceFile.{MAX_FILE, InterfaceText, Verdict, accepted, IsJudged, too_long, no_tokens, no_file, another_shape, one_function}
+use Rattle.session.specs.InterfaceFile.{InterfaceText, Verdict, accepted, IsJudged, too_long, no_tokens, no_file, another_shape, one_function}
+use Rattle.session.specs.TextLimits.{MAX_FILE}
 use Rattle.session.specs.InterfaceFile as verdict
 use Rattle.session.specs.LoadAnswers.{answer_of, IsGiven, IsOnlyGiven, IsRefusedBy, IsFileRefusedBy}
-use Rattle.session.specs.InterfaceVerdicts.{verdict_of, words_of}
+use Rattle.session.specs.InterfaceVerdicts.{verdict_of}
+use Rattle.session.specs.Refusals.{refusal_line, script_fault, file_fault}
+use Rattle.session.specs.declared.interface_fault.FileFault.{FileFault}
+use Rattle.session.specs.declared.refused_text.ScriptFault.TheVariants.{Form, Value as BadValue}
 use Rattle.session.specs.declared.interface_fault.InterfaceFault.{InterfaceFault}
 use Rattle.session.specs.declared.interface_fault.InterfaceFault.TheVariants as interfaces
-use Rattle.session.specs.Loading.{LoadAnswer, loaded, refused, Loads, Agree, loaded_of, refusal_line, BAD_SCRIPT, BAD_VALUE}
+use Rattle.session.specs.Loading.{LoadAnswer, loaded, refused, Loads, Agree, loaded_of}
 use Rattle.session.specs.Loading.{no_script, bad_script, no_interface, bad_interface, bad_value, session}
 use Rattle.session.specs.Reading.{event_of, Reads}
 use Rattle.session.specs.ScriptSteps.{is_call_value}
-use Rattle.session.specs.ScriptText.{ScriptText, IsScriptText, MAX_CALLS}
+use Rattle.session.specs.ScriptText.{ScriptText, IsScriptText}
+use Rattle.session.specs.TextLimits.{MAX_CALLS}
 use Rattle.session.proofs.ScriptLaws.{calls_are}
 
 -- ---- the front of a file
@@ -151,9 +156,10 @@ reads_of c name r s text h is form = h.only s (subst (λ (b : List ℕ). IsScrip
 same_verdict : (c : Contents) (name other : List ℕ) (v w : Verdict) (file : List ℕ) → HoldsInterface c name v → c other ≡ Some file → name ≡ other → IsJudged file w → w ≡ v
 same_verdict c name other v w file h is same form = h.judged.only w (subst (λ (b : List ℕ). IsJudged b w) (same_file c name other h.file file h.is is same) form)
 
-abbrev what_in : Verdict → List ℕ
-what_in (accepted i) = []
-what_in (verdict.refused what) = what
+-- the line of a refused file
+abbrev line_in : List ℕ → Verdict → List ℕ
+line_in name (accepted i) = []
+line_in name (verdict.refused fault) = refusal_line name (file_fault fault)
 
 abbrev names_in : Verdict → InterfaceText → InterfaceText
 names_in (accepted i) j = i
@@ -162,16 +168,16 @@ names_in (verdict.refused what) j = j
 names_are : (c : Contents) (name other : List ℕ) (i j : InterfaceText) (file : List ℕ) → HoldsInterface c name (accepted i) → c other ≡ Some file → name ≡ other → IsJudged file (accepted j) → i ≡ j
 names_are c name other i j file h is same form = sym (ap (λ (v : Verdict). names_in v i) (same_verdict c name other (accepted i) (accepted j) file h is same form))
 
-no_names : (what : List ℕ) (i : InterfaceText) → accepted i ≡ verdict.refused what → ⊥
-no_names what i e = absurd (cc)
+no_names : (fault : FileFault) (i : InterfaceText) → accepted i ≡ verdict.refused fault → ⊥
+no_names fault i e = absurd (cc)
 
-exactly_bad_script : (c : Contents) (name : List ℕ) → HoldsNoScript c name → HoldsOnly (Loads c name) (refused (refusal_line name BAD_SCRIPT))
+exactly_bad_script : (c : Contents) (name : List ℕ) → HoldsNoScript c name → HoldsOnly (Loads c name) (refused (refusal_line name (script_fault Form)))
 exactly_bad_script c name h = record { holds = bad_script h.file h.is h.none; only = only_this }
   where
     not_here : (text : List ℕ) (s : ScriptText) → c name ≡ Some text → IsScriptText s text → ⊥
     not_here text s is form = h.none s (subst (λ (b : List ℕ). IsScriptText s b) (same_file c name name h.file text h.is is refl) form)
 
-    only_this : (other : LoadAnswer) → Loads c name other → other ≡ refused (refusal_line name BAD_SCRIPT)
+    only_this : (other : LoadAnswer) → Loads c name other → other ≡ refused (refusal_line name (script_fault Form))
     only_this other (no_script none) = absurd (gone c name name h.file h.is none refl)
     only_this other (bad_script text is none) = refl
     only_this other (no_interface text s is form none) = absurd (not_here text s is form)
@@ -179,31 +185,31 @@ exactly_bad_script c name h = record { holds = bad_script h.file h.is h.none; on
     only_this other (bad_value text file s i is form there names apart) = absurd (not_here text s is form)
     only_this other (session text file s i is form there names agree) = absurd (not_here text s is form)
 
-exactly_bad_interface : (c : Contents) (name what : List ℕ) (r : ScriptStruct) → HoldsScript c name r → HoldsInterface c r.client.now (verdict.refused what) → HoldsOnly (Loads c name) (refused (refusal_line r.client.now what))
+exactly_bad_interface : (c : Contents) (name : List ℕ) (what : FileFault) (r : ScriptStruct) → HoldsScript c name r → HoldsInterface c r.client.now (verdict.refused what) → HoldsOnly (Loads c name) (refused (refusal_line r.client.now (file_fault what)))
 exactly_bad_interface c name what r h n = record { holds = gives; only = only_this }
   where
-    gives : Loads c name (refused (refusal_line r.client.now what))
+    gives : Loads c name (refused (refusal_line r.client.now (file_fault what)))
     gives =
-        let row : Loads c name (refused (refusal_line h.text.client what)) = bad_interface h.file n.file what h.text h.is h.form (ap c (sym h.reads.client) ∙ n.is) n.judged.holds in
-        subst (λ (client : List ℕ). Loads c name (refused (refusal_line client what))) (sym h.reads.client) row
+        let row : Loads c name (refused (refusal_line h.text.client (file_fault what))) = bad_interface h.file n.file what h.text h.is h.form (ap c (sym h.reads.client) ∙ n.is) n.judged.holds in
+        subst (λ (client : List ℕ). Loads c name (refused (refusal_line client (file_fault what)))) (sym h.reads.client) row
 
     verdict_is : (text file : List ℕ) (s : ScriptText) (v : Verdict) → c name ≡ Some text → IsScriptText s text → c s.client ≡ Some file → IsJudged file v → v ≡ verdict.refused what
     verdict_is text file s v is form there judged =
         same_verdict c r.client.now s.client (verdict.refused what) v file n there (reads_of c name r s text h is form).client judged
 
-    only_this : (other : LoadAnswer) → Loads c name other → other ≡ refused (refusal_line r.client.now what)
+    only_this : (other : LoadAnswer) → Loads c name other → other ≡ refused (refusal_line r.client.now (file_fault what))
     only_this other (no_script none) = absurd (gone c name name h.file h.is none refl)
     only_this other (bad_script text is none) = absurd (none h.text (subst (λ (b : List ℕ). IsScriptText h.text b) (same_file c name name text h.file is h.is refl) h.form))
     only_this other (no_interface text s is form none) = absurd (gone c r.client.now s.client n.file n.is none (reads_of c name r s text h is form).client)
     only_this other (bad_interface text file own s is form there judged) =
-        ap (λ (client : List ℕ). refused (refusal_line client own)) (sym (reads_of c name r s text h is form).client)
-        ∙ ap (λ (v : Verdict). refused (refusal_line r.client.now (what_in v))) (verdict_is text file s (verdict.refused own) is form there judged)
+        ap (λ (client : List ℕ). refused (refusal_line client (file_fault own))) (sym (reads_of c name r s text h is form).client)
+        ∙ ap (λ (v : Verdict). refused (line_in r.client.now v)) (verdict_is text file s (verdict.refused own) is form there judged)
     only_this other (bad_value text file s i is form there names apart) = absurd (no_names what i (verdict_is text file s (accepted i) is form there names))
     only_this other (session text file s i is form there names agree) = absurd (no_names what i (verdict_is text file s (accepted i) is form there names))
 
 -- where both files are accepted, any row of loading is one of these
 pub data OfBoth (r : ScriptStruct) (i : InterfaceText) (name : List ℕ) : LoadAnswer → Type 0 where
-  apart : (s : ScriptText) → Reads r s → ¬ Agree s i → OfBoth r i name (refused (refusal_line name BAD_VALUE))
+  apart : (s : ScriptText) → Reads r s → ¬ Agree s i → OfBoth r i name (refused (refusal_line name (script_fault BadValue)))
   agreed : (s : ScriptText) → Reads r s → Agree s i → OfBoth r i name (loaded (loaded_of s i))
 
 of_both : (c : Contents) (name : List ℕ) (r : ScriptStruct) (i : InterfaceText) (answer : LoadAnswer) → HoldsScript c name r → HoldsInterface c r.client.now (accepted i) → Loads c name answer → OfBoth r i name answer
@@ -221,14 +227,14 @@ of_both c name r i answer h n (session text file s j is form there names agree) 
     let same : i ≡ j = names_are c r.client.now s.client i j file n there reads.client names in
     subst (λ (j : InterfaceText). OfBoth r i name (loaded (loaded_of s j))) same (agreed s reads (subst (λ (j : InterfaceText). Agree s j) (sym same) agree))
 
-exactly_bad_value : (c : Contents) (name : List ℕ) (r : ScriptStruct) (i : InterfaceText) → HoldsScript c name r → HoldsInterface c r.client.now (accepted i) → ((s : ScriptText) → Reads r s → ¬ Agree s i) → HoldsOnly (Loads c name) (refused (refusal_line name BAD_VALUE))
+exactly_bad_value : (c : Contents) (name : List ℕ) (r : ScriptStruct) (i : InterfaceText) → HoldsScript c name r → HoldsInterface c r.client.now (accepted i) → ((s : ScriptText) → Reads r s → ¬ Agree s i) → HoldsOnly (Loads c name) (refused (refusal_line name (script_fault BadValue)))
 exactly_bad_value c name r i h n unlike =
     record {
       holds = bad_value h.file n.file h.text i h.is h.form (ap c (sym h.reads.client) ∙ n.is) n.judged.holds (unlike h.text h.reads);
       only = λ other given. judged other (of_both c name r i other h n given);
     }
   where
-    judged : (other : LoadAnswer) → OfBoth r i name other → other ≡ refused (refusal_line name BAD_VALUE)
+    judged : (other : LoadAnswer) → OfBoth r i name other → other ≡ refused (refusal_line name (script_fault BadValue))
     judged other (apart s reads unlike) = refl
     judged other (agreed s reads agree) = absurd (unlike s reads agree)
 
@@ -259,18 +265,18 @@ calls_read bytes r found = rw (found.2.events, ← calls_are found.0.events) fou
 abbrev pub IsExact : Option Contents → List ℕ → LoadAnswer → Type 0
 IsExact told name = IsToldOnly told (λ contents. Loads contents name)
 
-pub bad_script_told : (told : Option Contents) (name bytes : List ℕ) → IsFrontOfFile told name MOST bytes → ((s : ScriptText) → IsScriptText s bytes → ⊥) → IsExact told name (refused (refusal_line name BAD_SCRIPT))
+pub bad_script_told : (told : Option Contents) (name bytes : List ℕ) → IsFrontOfFile told name MOST bytes → ((s : ScriptText) → IsScriptText s bytes → ⊥) → IsExact told name (refused (refusal_line name (script_fault Form)))
 bad_script_told None name bytes front none = tt
 bad_script_told (Some c) name bytes front none = exactly_bad_script c name (no_script_held c name bytes front none)
 
-pub bad_interface_told : (told : Option Contents) (name text file what : List ℕ) (r : ScriptStruct) → IsFrontOfFile told name MOST text → HasRead text r
-    → IsFrontOfFile told r.client.now MOST file → HoldsOnly (IsJudged file) (verdict.refused what) → IsExact told name (refused (refusal_line r.client.now what))
+pub bad_interface_told : (told : Option Contents) (name text file : List ℕ) (what : FileFault) (r : ScriptStruct) → IsFrontOfFile told name MOST text → HasRead text r
+    → IsFrontOfFile told r.client.now MOST file → HoldsOnly (IsJudged file) (verdict.refused what) → IsExact told name (refused (refusal_line r.client.now (file_fault what)))
 bad_interface_told None name text file what r front read behind judged = tt
 bad_interface_told (Some c) name text file what r front read behind judged =
     exactly_bad_interface c name what r (script_held c name text r front read.found read.only) (interface_held c r.client.now file (verdict.refused what) behind judged)
 
 pub bad_value_told : (told : Option Contents) (name text file : List ℕ) (r : ScriptStruct) (i : InterfaceText) → IsFrontOfFile told name MOST text → HasRead text r
-    → IsFrontOfFile told r.client.now MOST file → HoldsOnly (IsJudged file) (accepted i) → ((s : ScriptText) → Reads r s → ¬ Agree s i) → IsExact told name (refused (refusal_line name BAD_VALUE))
+    → IsFrontOfFile told r.client.now MOST file → HoldsOnly (IsJudged file) (accepted i) → ((s : ScriptText) → Reads r s → ¬ Agree s i) → IsExact told name (refused (refusal_line name (script_fault BadValue)))
 bad_value_told None name text file r i front read behind judged unlike = tt
 bad_value_told (Some c) name text file r i front read behind judged unlike =
     exactly_bad_value c name r i (script_held c name text r front read.found read.only) (interface_held c r.client.now file (accepted i) behind judged) unlike
@@ -290,7 +296,7 @@ refused_exact told name line Read exact by = tt
 pub file_refused_exact : (told : Option Contents) (name text file : List ℕ) (r : ScriptStruct) (fault : InterfaceFault) (answer : LoadFault) → IsFrontOfFile told name MOST text → HasRead text r
     → IsFrontOfFile told r.client.now MOST file → IfSome (verdict_of (Err fault)) (HoldsOnly (IsJudged file)) → IsFileRefusedBy r.client.now fault answer → IfSome (answer_of (Err answer)) (IsExact told name)
 file_refused_exact told name text file r (interfaces.Refused fault) answer front read behind judged by =
-    refused_exact told name (refusal_line r.client.now (words_of fault)) answer (bad_interface_told told name text file (words_of fault) r front read behind judged) by
+    refused_exact told name (refusal_line r.client.now (file_fault fault)) answer (bad_interface_told told name text file fault r front read behind judged) by
 file_refused_exact told name text file r interfaces.Memory answer front read behind judged by = subst (λ (a : LoadFault). IfSome (answer_of (Err a)) (IsExact told name)) (sym by) tt
 
 -- ---- what is returned then

@@ -2,7 +2,8 @@
 use Rattle.std.proofs.Common.{◌≡◌, ◌≤◌, ℕ, true, List, length, take, drop, map, sym, ap, subst, ◌∙◌}
 use Rattle.std.specs.List.{AllByRecursion}
 use Rattle.session.specs.declared.plan.Plan.{Plan}
-use Rattle.session.specs.Courses.{Course, Opened, WIDTH, closed_call, opened, sent_frame, answer_frame, joined}
+use Rattle.session.specs.Courses.{Course, Opened, closed_call, opened, sent_frame, answer_frame, joined}
+use Rattle.session.specs.Sessions.{WIDTH}
 use Rattle.session.specs.Planned.{got_rows, sent_row}
 use Rattle.session.specs.Tracks.{Tracks, IsOpened, answer_frames}
 

@@ -1,12 +1,18 @@
 -- Names: the test and the definition, and the readers of names.
-use Rattle.std.proofs.Common.{◌≡◌, ◌≢◌, ℕ, Bool, true, false, eqb, leb, ◌&&◌, not, List, [], ◌∷◌, ◌++◌, length, refl, sym, ap}
+use Rattle.std.proofs.Common.{◌≡◌, ◌≢◌, ℕ, Bool, true, false, eqb, leb, ◌&&◌, not, Option, Some, None, List, [], ◌∷◌, ◌++◌, length, refl, sym, ap}
+use Rattle.std.specs.Prelude.{is_some, MatchOption}
 use Rattle.std.specs.Bool.{Decides}
 use Rattle.std.specs.List.{list_all, list_any, AllByRecursion}
 use Rattle.std.specs.Str.{bytes_eq}
 use Rattle.std.proofs.lemmas.Bool.{and_parts, and_from, or_parts, or_from, not-true, not_from_false, leb-true, le-leb, eqb-true, false_from_ne_true}
 use Rattle.std.proofs.lemmas.Bool.Decides.{Decides-like, Decides-not}
 use Rattle.std.proofs.lemmas.Slice.Eq.{bytes_eq-Decides}
-use Rattle.session.specs.Words.{is_letter, keywords, IsName}
+use Rattle.idl_parse.specs.declared.keyword.Keyword.{Keyword}
+use Rattle.idl_parse.specs.Lexing.{keyword_of}
+use Rattle.idl_parse.specs.Spellings.{keyword_text}
+use Rattle.idl_parse.proofs.WordLaws.{keyword_means, keyword_found, keyword_is}
+use Rattle.session.specs.TextLimits.{MAX_NAME}
+use Rattle.session.specs.Words.{is_letter, IsName}
 use Rattle.session.specs.Scan.{is_keyword, is_name, name, name_before}
 use Rattle.session.proofs.Readers.{lacks, IsWhole, IsFront, tested_whole, before_front}
 
@@ -18,25 +24,29 @@ lacks_from test c (b ∷ bytes) fails h =
     let differs : not (eqb b c) ≡ true = not_from_false (eqb b c) (false_from_ne_true (eqb b c) (λ e. absurd (let same = eqb-true b c e in cc (ap test same)))) in
     and_from (not (eqb b c)) (lacks c bytes) differs (lacks_from test c bytes fails parts.1)
 
--- no word of the list is these bytes
-unlike_decides : (bytes : List ℕ) (words : List (List ℕ)) → Decides (not (list_any (λ word. bytes_eq word bytes) words)) (AllByRecursion (λ word. bytes ≢ word) words)
-unlike_decides bytes [] = (λ _. tt, λ _. refl)
-unlike_decides bytes (word ∷ words) =
-    let first = Decides-like (not (bytes_eq word bytes)) (λ apart e. apart (sym e)) (λ apart e. apart (sym e)) (Decides-not (bytes_eq word bytes) (bytes_eq-Decides word bytes)) in
-    let others = unlike_decides bytes words in (
-      λ e. let parts = or_parts (bytes_eq word bytes) (list_any (λ word. bytes_eq word bytes) words) (not-true _ e) in (first.0 (not_from_false _ parts.0), others.0 (not_from_false _ parts.1)),
-      λ h. not_from_false _ (or_from (bytes_eq word bytes) (list_any (λ word. bytes_eq word bytes) words) (not-true _ (first.1 h.0)) (not-true _ (others.1 h.1))),
-    )
+-- the table of keywords says whether bytes are one
+pub no_keyword_decides : (bytes : List ℕ) → Decides (not (is_some (keyword_of bytes))) ((keyword : Keyword) → bytes ≢ keyword_text keyword)
+no_keyword_decides bytes = by_keyword (keyword_of bytes) refl
+  where
+    by_keyword : (o : Option Keyword) → keyword_of bytes ≡ o → Decides (not (is_some o)) ((keyword : Keyword) → bytes ≢ keyword_text keyword)
+    by_keyword None none = (λ _ keyword same. absurd (cc (none, ap keyword_of same, keyword_found keyword)), λ _. refl)
+    by_keyword (Some keyword) is = (λ e. absurd (cc), λ other. absurd (other keyword (keyword_means bytes keyword is)))
+
+-- so does what is found of the keyword
+pub keyword_test : (bytes : List ℕ) (found : Option Keyword) → MatchOption found ((keyword : Keyword) → bytes ≢ keyword_text keyword) (λ keyword. bytes ≡ keyword_text keyword)
+    → is_some found ≡ is_keyword bytes
+unfolding is_keyword
+keyword_test bytes found is = ap is_some (keyword_is bytes found is)
 
 name_decides : (bytes : List ℕ) → Decides (is_name bytes) (IsName bytes)
 unfolding is_name is_keyword
 name_decides bytes = (
   λ e.
-      let a = and_parts (leb 1 (length bytes) && leb (length bytes) 32 && list_all is_letter bytes) (not (list_any (λ word. bytes_eq word bytes) keywords)) e in
-      let b = and_parts (leb 1 (length bytes) && leb (length bytes) 32) (list_all is_letter bytes) a.0 in
-      let c = and_parts (leb 1 (length bytes)) (leb (length bytes) 32) b.0 in
-      record { some = leb-true _ _ c.0; short = leb-true _ _ c.1; letters = b.1; no_keyword = (unlike_decides bytes keywords).0 a.1 },
-  λ h. and_from _ _ (and_from _ _ (and_from _ _ (le-leb 1 (length bytes) h.some) (le-leb (length bytes) 32 h.short)) h.letters) ((unlike_decides bytes keywords).1 h.no_keyword),
+      let a = and_parts (leb 1 (length bytes) && leb (length bytes) MAX_NAME && list_all is_letter bytes) (not (is_some (keyword_of bytes))) e in
+      let b = and_parts (leb 1 (length bytes) && leb (length bytes) MAX_NAME) (list_all is_letter bytes) a.0 in
+      let c = and_parts (leb 1 (length bytes)) (leb (length bytes) MAX_NAME) b.0 in
+      record { some = leb-true _ _ c.0; short = leb-true _ _ c.1; letters = b.1; no_keyword = (no_keyword_decides bytes).0 a.1 },
+  λ h. and_from _ _ (and_from _ _ (and_from _ _ (le-leb 1 (length bytes) h.some) (le-leb (length bytes) MAX_NAME h.short)) h.letters) ((no_keyword_decides bytes).1 h.no_keyword),
 )
 
 pub name_whole : IsWhole name (λ (word : List ℕ). word) IsName (λ (word : List ℕ). word)

@@ -1,6 +1,7 @@
 -- How long a packet's body is at most.
 use Rattle.std.proofs.Common.{◌<◌, ◌≤◌, ◌^◌, ◌+◌, ◌*◌, ℕ, List, [], ◌∷◌, length, arith, cond, Bool, true, false, lit≤, length-append, pos}
 use Rattle.std.specs.Prelude.{nat_lt, nat_le, ℤ}
+use Rattle.wire_words.specs.Packets.{LENGTH_BYTES}
 use Rattle.wire_words.specs.Tree.{WireNumber, zero_tag, int1, int2, int4, int8, string1, string4}
 use Rattle.wire_words.specs.Spelling.{head, two_complement, spelled_number, spelled_size, shortest, spelled}
 use Rattle.tars_model.specs.declared.value.Value.{Num, Text, Blob, Map}
@@ -52,12 +53,12 @@ empty_short tag =
     rw (wire_value_at (Map []) (layer.Map []) (outs-Map []))
     (simp length-append (omega (arith, head_short tag 8, number_short 0 (shortest (pos 0)))))
 
-pub request_short : (r : Request) → IsSendable r → length (written request_members (request_values r)) + 4 < 2 ^ 32
+pub request_short : (r : Request) → IsSendable r → length (written request_members (request_values r)) + LENGTH_BYTES < 2 ^ 32
 unfolding written request_members request_values
 request_short r h =
     simp length-append (omega (arith, num_short 1 (pos 1), num_short 2 (pos 0), num_short 3 (pos 0), num_short 4 (pos r.id), text_short 5 r.servant, text_short 6 r.func, blob_short 7 r.body, num_short 8 (pos r.timeout), empty_short 9, empty_short 10))
 
-pub response_short : (r : Response) → IsAnswerable r → length (written response_members (response_values r)) + 4 < 2 ^ 32
+pub response_short : (r : Response) → IsAnswerable r → length (written response_members (response_values r)) + LENGTH_BYTES < 2 ^ 32
 unfolding written response_members response_values
 response_short r h =
     simp length-append (omega (arith, num_short 1 (pos 1), num_short 2 (pos 0), num_short 3 (pos r.id), num_short 4 (pos 0), num_short 5 r.ret, blob_short 6 r.body, empty_short 7, text_short 8 []))

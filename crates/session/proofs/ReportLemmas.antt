@@ -1,5 +1,5 @@
 -- What the plan keeps is what the report says.
-use Rattle.std.proofs.Common.{◌≡◌, ◌≤◌, ℕ, List, [], ◌∷◌, ◌++◌, length, take, map, sym, ap, ◌∙◌}
+use Rattle.std.proofs.Common.{◌≡◌, ◌≤◌, ℕ, None, List, [], ◌∷◌, ◌++◌, length, take, map, sym, ap, ◌∙◌}
 use Rattle.std.proofs.lemmas.List.{take-map, take-take}
 use Rattle.std.specs.List.{filter_map}
 use Rattle.wire_words.specs.Packets.{packets_of}
@@ -10,7 +10,8 @@ use Rattle.session.specs.declared.plan.Plan.{Plan}
 use Rattle.session.specs.declared.report.Report.{Report}
 use Rattle.session.specs.declared.report.RouteStep.{RouteStep}
 use Rattle.session.specs.declared.report.Row.{Row}
-use Rattle.session.specs.Courses.{NODE, Course, opened, received, answer_frame, joined, answered_calls}
+use Rattle.session.specs.Courses.{Course, opened, received, answer_frame, joined, answered_calls}
+use Rattle.session.specs.Sessions.{NODE}
 use Rattle.session.specs.Planned.{row_of, picked_step, reported_step, got_rows, link_log, report_of}
 use Rattle.session.specs.Tracks.{Tracks, IsOpened, answer_frames}
 use Rattle.session.proofs.FramesArePackets.{answers_are_packets}
@@ -31,7 +32,7 @@ received_is p c t =
     ∙ front
 
 same_link : {s t : List SentRow} {g h : List GotRow} → s ≡ t → g ≡ h
-    → ◌≡◌ {A = LinkLog} (record { node = NODE; sent = s; torn = []; got = g; rest = [] }) (record { node = NODE; sent = t; torn = []; got = h; rest = [] })
+    → ◌≡◌ {A = LinkLog} (record { node = NODE; sent = s; torn = []; got = g; rest = []; cut = None }) (record { node = NODE; sent = t; torn = []; got = h; rest = []; cut = None })
 same_link a b = cc
 
 same_report : {a b : List Row} {k l : List LinkLog} {r s : List RouteStep} → a ≡ b → k ≡ l → r ≡ s
@@ -39,12 +40,12 @@ same_report : {a b : List Row} {k l : List LinkLog} {r s : List RouteStep} → a
 same_report x y z = cc
 
 link_is : (p : Plan) (c : Course) (t : Tracks p c)
-    → ◌≡◌ {A = LinkLog} (record { node = NODE; sent = p.sent.items; torn = []; got = p.got.items; rest = [] }) (link_log p.service c)
+    → ◌≡◌ {A = LinkLog} (record { node = NODE; sent = p.sent.items; torn = []; got = p.got.items; rest = []; cut = None }) (link_log p.service c)
 link_is p c t = same_link t.sent_is (t.got_is ∙ ap (λ ps. got_rows ps c.fates) (sym (received_is p c t)))
 
 pub report_is : (p : Plan) (c : Course) (t : Tracks p c) (calls : List Row) (links : List LinkLog) (routes : List RouteStep) (link : LinkLog)
     → calls ≡ map row_of p.calls.items
-    → link ≡ record { node = NODE; sent = p.sent.items; torn = []; got = p.got.items; rest = [] }
+    → link ≡ record { node = NODE; sent = p.sent.items; torn = []; got = p.got.items; rest = []; cut = None }
     → links ≡ link ∷ []
     → routes ≡ filter_map picked_step p.calls.items ++ filter_map reported_step p.calls.items
     → ◌≡◌ {A = Report} (record { calls = calls; links = links; routes = routes }) (report_of p.service c)

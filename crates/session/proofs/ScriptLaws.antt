@@ -5,8 +5,9 @@ use Rattle.std.specs.List.{AllByRecursion}
 use Rattle.std.proofs.lemmas.Bool.{leb-true, le-leb, cond-true}
 use Rattle.std.proofs.lemmas.Option.{cond_some}
 use Rattle.session.specs.declared.script.ScriptText.{ScriptText as ScriptStruct}
-use Rattle.session.specs.InterfaceFile.{MAX_FILE}
-use Rattle.session.specs.ScriptText.{EventText, ObjectText, ScriptText, object_id, client_line, interface_header, object_line, servant_line, event_line, script_lines, script_text, is_host_byte, IsObject, IsEvent, is_call, IsScriptText, MAX_LINE, MAX_CALLS}
+use Rattle.session.specs.TextLimits.{MAX_FILE}
+use Rattle.session.specs.ScriptText.{EventText, ObjectText, ScriptText, object_id, client_line, interface_header, object_line, servant_line, event_line, script_lines, script_text, is_host_byte, IsObject, IsEvent, is_call, IsScriptText}
+use Rattle.session.specs.TextLimits.{MAX_LINE, MAX_CALLS}
 use Rattle.session.specs.ScriptText as script
 use Rattle.session.specs.Reading.{EventValue, event_meant, Reads}
 use Rattle.wire_words.specs.Bind.{◌>>=◌}

@@ -10,8 +10,9 @@ use Rattle.tars_model.specs.declared.value.Value.TheVariants.{outs-Num}
 use Rattle.tars_codec.specs.Written.{written}
 use Rattle.session.specs.declared.rpc_packet.response.Response.{Response}
 use Rattle.session.specs.declared.service.Service.{Service}
-use Rattle.session.specs.Services.{IsService, AreTwoInts, Asks, Reply, sum, code, UNKNOWN, added, argument, reply_to, request_of, response_of, response_with}
-use Rattle.session.specs.RpcPackets.{IsSendable, IsAnswerable}
+use Rattle.session.specs.Services.{IsService, AreTwoInts, Asks, reply_to, request_of, response_of, response_with}
+use Rattle.session.specs.Replies.{Reply, sum, code, UNKNOWN, added, argument}
+use Rattle.session.specs.RpcPackets.{MAX_TEXT, IsSendable, IsAnswerable}
 use Rattle.session.proofs.PacketLengths.{num_short}
 
 pub arguments_rise : (s : Service) → IsService s → HaveRisingTags s.arguments
@@ -33,18 +34,18 @@ one_fits n h = simp (outs-Num, outs-Int) (search rules)
 pub reply_fits : (s : Service) (n : ℤ) → IsService s → IsInt n → FitMembers s.reply (Num n ∷ [])
 reply_fits s n h int = rw h.reply_is (one_fits n int)
 
-two_short : (a b : List ℕ) (m n : ℤ) → length (written (required 1 Int a ∷ required 2 Int b ∷ []) (Num m ∷ Num n ∷ [])) ≤ 4096
+two_short : (a b : List ℕ) (m n : ℤ) → length (written (required 1 Int a ∷ required 2 Int b ∷ []) (Num m ∷ Num n ∷ [])) ≤ MAX_TEXT
 unfolding written
 two_short a b m n = simp length-append (omega (arith, num_short 1 m, num_short 2 n))
 
-pub arguments_short : (s : Service) (args : List Value) → IsService s → AreTwoInts args → length (written s.arguments args) ≤ 4096
+pub arguments_short : (s : Service) (args : List Value) → IsService s → AreTwoInts args → length (written s.arguments args) ≤ MAX_TEXT
 arguments_short s args h ints = rw (h.arguments_are, ints.are) (two_short h.first h.second ints.first ints.second)
 
-one_short : (n : ℤ) → length (written (required 0 Int [] ∷ []) (Num n ∷ [])) ≤ 4096
+one_short : (n : ℤ) → length (written (required 0 Int [] ∷ []) (Num n ∷ [])) ≤ MAX_TEXT
 unfolding written
 one_short n = simp length-append (omega (arith, num_short 0 n))
 
-pub reply_short : (s : Service) (n : ℤ) → IsService s → length (written s.reply (Num n ∷ [])) ≤ 4096
+pub reply_short : (s : Service) (n : ℤ) → IsService s → length (written s.reply (Num n ∷ [])) ≤ MAX_TEXT
 reply_short s n h = rw h.reply_is (one_short n)
 
 pub request_sendable : (s : Service) (args : List Value) (id : ℕ) → IsService s → AreTwoInts args → id < 2 ^ 31 → IsSendable (request_of s args id)

@@ -15,7 +15,7 @@ use Rattle.session.specs.declared.loaded.Rule.{Rule}
 use Rattle.session.specs.declared.loaded.Rule.TheVariants.{Add}
 use Rattle.session.specs.declared.script.ScriptText.{ScriptText as ScriptStruct}
 use Rattle.session.specs.InterfaceFile.{InterfaceText}
-use Rattle.session.specs.Loading.{Agree, IsParameter, IsEventOf, events_from, place_of, loaded_of}
+use Rattle.session.specs.Loading.{two_way_call, Agree, IsParameter, IsEventOf, events_from, place_of, loaded_of}
 use Rattle.session.specs.Reading.{int_of}
 use Rattle.tars_model.specs.Fits.{IsInt, is_int}
 use Rattle.tars_model.proofs.Ints.{int_test, int_passes}
@@ -25,7 +25,7 @@ use Rattle.wire_words.specs.Bind.{◌>>=◌}
 use Rattle.session.specs.Scan.{Gives}
 use Rattle.session.specs.ScriptText.{ScriptText, EventText, call, serve, work, deliver, close}
 use Rattle.session.specs.SessionSteps.{place_in, rule_in, call_with, event_in, next_number, events_in, object_in, is_about, session_in}
-use Rattle.session.specs.Sessions.{func_of_two, schema_of_one}
+use Rattle.session.specs.Sessions.{NODE, func_of_two, schema_of_one}
 use Rattle.session.specs.Words.{number_of}
 use Rattle.session.proofs.Readers.{bind_some, some_is, chosen}
 
@@ -80,10 +80,10 @@ int_made text h = cond-true (is_int (number_of text)) _ _ (int_passes (number_of
 
 -- what the event of a line is, where the next call has a number
 abbrev first_event : ℕ → EventText → Event
-first_event n (call func a b) = Call (record { call = n; line = 1; func = 0; args = Num (number_of a) ∷ Num (number_of b) ∷ [] })
-first_event n serve = Serve
-first_event n work = Work
-first_event n deliver = Deliver
+first_event n (call func a b) = Call (two_way_call n (Num (number_of a) ∷ Num (number_of b) ∷ []))
+first_event n serve = Serve NODE None
+first_event n work = Work NODE
+first_event n deliver = Deliver NODE None
 first_event n close = Close
 
 event_made : (i : InterfaceText) (n : ℕ) (t : EventText) → IsEventOf i t → event_in i.func n (event_meant t) ≡ Some (first_event n t)
@@ -111,9 +111,9 @@ event_found i n (call func a b) e found =
     let left = int_found a c.0 c.2 in
     let right = int_found b c.1 c.3 in
     ((c.4, left.0, right.0), cc (c.5, left.1, right.1))
-event_found i n serve e found = (tt, sym (some_is Serve e found))
-event_found i n work e found = (tt, sym (some_is Work e found))
-event_found i n deliver e found = (tt, sym (some_is Deliver e found))
+event_found i n serve e found = (tt, sym (some_is (Serve NODE None) e found))
+event_found i n work e found = (tt, sym (some_is (Work NODE) e found))
+event_found i n deliver e found = (tt, sym (some_is (Deliver NODE None) e found))
 event_found i n close e found = (tt, sym (some_is Close e found))
 
 -- the number behind the event of a line

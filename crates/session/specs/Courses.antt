@@ -16,17 +16,10 @@ use Rattle.session.specs.declared.report.PickNote.{PickNote}
 use Rattle.session.specs.declared.report.Refusal.{Refusal}
 use Rattle.session.specs.declared.report.Refusal.TheVariants as refusal
 use Rattle.session.specs.declared.pending.Pending.{Pending}
-use Rattle.session.specs.declared.report.Why.TheVariants.{Live}
 use Rattle.session.specs.declared.service.Service.{Service}
-use Rattle.session.specs.Services.{Reply, sum, code, reply_to, request_of, response_of}
-
--- how many calls of the line may be in flight
-abbrev pub WIDTH : ℕ
-WIDTH = 8
-
--- the one node and the one link, as reports number them
-abbrev pub NODE : ℕ
-NODE = 1
+use Rattle.session.specs.Replies.{Reply, sum, code}
+use Rattle.session.specs.Services.{reply_to, request_of, response_of}
+use Rattle.session.specs.Sessions.{WIDTH, LINK, live_node}
 
 -- What has happened.
 
@@ -93,17 +86,14 @@ abbrev pub received : Service → Course → List (List ℕ)
 received s c = packets_of (take c.delivered (answers_stream s c))
 
 -- A call: full where so many are in flight, else a node is picked; refused where the session was closed.
-abbrev pub live_node : Option PickNote
-live_node = Some (record { node = NODE; why = Live })
-
 -- a call that was not sent, and one that was
 abbrev pub not_sent : CallSpec → Option PickNote → Refusal → Pending
 not_sent spec pick why =
-    record { call = spec.call; line = spec.line; func = spec.func; pick = pick; id = None; end = Some (Refused why) }
+    record { call = spec.call; line = spec.line; func = spec.func; two_way = spec.two_way; pick = pick; id = None; end = Some (Refused why) }
 
 abbrev pub open_under : CallSpec → ℕ → Pending
 open_under spec id =
-    record { call = spec.call; line = spec.line; func = spec.func; pick = live_node; id = Some (record { 0 = id }); end = None }
+    record { call = spec.call; line = spec.line; func = spec.func; two_way = spec.two_way; pick = live_node; id = Some (record { 0 = id }); end = None }
 
 unfoldable pub began : Course → CallSpec → Pending
 began c spec =
@@ -113,8 +103,8 @@ began c spec =
 
 -- A reply settles the call that is open under its id.
 abbrev pub outcome : ℕ → Reply → End
-outcome packet (sum n) = ValueEnd NODE packet (Num n ∷ [])
-outcome packet (code n) = Code NODE packet n
+outcome packet (sum n) = ValueEnd LINK packet (Num n ∷ [])
+outcome packet (code n) = Code LINK packet n
 
 abbrev pub has_id : ℕ → Option CallId → Bool
 has_id id None = false
@@ -143,12 +133,12 @@ got s c o =
 abbrev pub closed_call : Pending → Pending
 closed_call call = if is_none call.end then record call { end = Some Closed } else call
 
--- What an event makes of what has happened.
+-- What an event makes of what has happened. There is one node, and each read takes all that waits.
 abbrev pub step : Service → Course → Event → Course
 step s c (Call spec) = record c { calls = c.calls ++ began c spec ∷ []; args = c.args ++ spec.args ∷ [] }
-step s c Serve = record c { served = length (requests_stream s c) }
-step s c Work = if nat_lt c.answered (length (offered s c)) then record c { answered = c.answered + 1 } else c
-step s c Deliver =
+step s c (Serve node bytes) = record c { served = length (requests_stream s c) }
+step s c (Work node) = if nat_lt c.answered (length (offered s c)) then record c { answered = c.answered + 1 } else c
+step s c (Deliver node bytes) =
     record (fold (got s) c (drop (length c.fates) (answered_calls c))) { delivered = length (answers_stream s c) }
 step s c Close = record c { calls = map closed_call c.calls; closed = true }
 

@@ -1,6 +1,5 @@
 -- What an interface file is to a script (docs/IDL.md, "What is accepted").
-use Rattle.std.specs.Prelude.{◌≡◌, ◌<◌, ◌≤◌, ℕ, Bool, true, false, ◌&&◌, not, is_none, nat_le, if◌then◌else◌, Option, Some, None, List, [], ◌∷◌, ◌++◌, length, slice_range, codes}
-use Rattle.std.specs.Fmt.{decimal}
+use Rattle.std.specs.Prelude.{◌≡◌, ◌<◌, ◌≤◌, ℕ, Bool, true, false, ◌&&◌, not, is_none, nat_le, if◌then◌else◌, Option, Some, None, List, [], ◌∷◌, length, slice_range}
 use Rattle.std.specs.Str.{bytes_eq}
 use Rattle.wire_words.specs.Bind.{◌>>=◌}
 use Rattle.idl_parse.specs.declared.token.Token.{Token}
@@ -18,15 +17,12 @@ use Rattle.idl_parse.specs.declared.tree.func.ParamTree.{ParamTree}
 use Rattle.idl_parse.specs.declared.tree.type_tree.BasicType.TheVariants as basic
 use Rattle.idl_parse.specs.declared.tree.type_tree.TypeTree.{TypeTree, out-TypeTree}
 use Rattle.idl_parse.specs.declared.tree.type_tree.TypeTree.TheOpen as types
-use Rattle.idl_parse.specs.LexWhy.{number_of}
-use Rattle.idl_parse.specs.ParseWhy.{number_of as parse_number_of}
 use Rattle.idl_parse.specs.Tokens.{Tokens, IsLexFault}
 use Rattle.idl_parse.specs.Grammar.{nesting_limit, IsFile}
 use Rattle.idl_parse.specs.Faults.{IsFault}
-
--- the longest file that is read
-abbrev pub MAX_FILE : ℕ
-MAX_FILE = 1048576
+use Rattle.session.specs.declared.interface_fault.FileFault.{FileFault}
+use Rattle.session.specs.declared.interface_fault.FileFault.TheVariants.{TooLong, Lex, Parse, Shape}
+use Rattle.session.specs.TextLimits.{MAX_FILE}
 
 -- the names that a script needs of an interface file
 pub record InterfaceText : Type 0 where
@@ -92,23 +88,21 @@ interface_in text entries = do
   names ← func_in text f
   Some (record { module_name = text_at text m.name; interface = text_at text i.name; func = names.0; first = names.1; second = names.2 })
 
--- How an interface file is judged: it is accepted with its names, or refused in these words, which name a
--- stage, a number and a place.
+-- How an interface file is judged: it is accepted with its names, or refused (`file_fault` in
+-- `specs/Refusals.antt` has the stage, the number and the place).
 pub data Verdict : Type 0 where
   accepted : InterfaceText → Verdict
-  refused : List ℕ → Verdict
+  refused : FileFault → Verdict
 
 pub data IsJudged (bytes : List ℕ) : Verdict → Type 0 where
-  too_long : MAX_FILE < length bytes → IsJudged bytes (refused (codes "parse 5 0"))
-  no_tokens :
-      (at : ℕ) (why : LexWhy) → length bytes ≤ MAX_FILE → IsLexFault bytes at why
-      → IsJudged bytes (refused (codes "lex " ++ decimal (number_of why) ++ codes " " ++ decimal at))
+  too_long : MAX_FILE < length bytes → IsJudged bytes (refused TooLong)
+  no_tokens : (at : ℕ) (why : LexWhy) → length bytes ≤ MAX_FILE → IsLexFault bytes at why → IsJudged bytes (refused (Lex at why))
   no_file :
       (tokens : List Token) (at : ℕ) (why : ParseWhy) → length bytes ≤ MAX_FILE → Tokens bytes tokens → IsFault nesting_limit (length bytes) tokens at why
-      → IsJudged bytes (refused (codes "parse " ++ decimal (parse_number_of why) ++ codes " " ++ decimal at))
+      → IsJudged bytes (refused (Parse at why))
   another_shape :
       (tokens : List Token) (file : List Entry) → length bytes ≤ MAX_FILE → Tokens bytes tokens → IsFile nesting_limit tokens file
-      → interface_in bytes file ≡ None → IsJudged bytes (refused (codes "check 11 0"))
+      → interface_in bytes file ≡ None → IsJudged bytes (refused Shape)
   one_function :
       (tokens : List Token) (file : List Entry) (i : InterfaceText) → length bytes ≤ MAX_FILE → Tokens bytes tokens → IsFile nesting_limit tokens file
       → interface_in bytes file ≡ Some i → IsJudged bytes (accepted i)

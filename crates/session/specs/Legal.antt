@@ -2,10 +2,11 @@
 use Rattle.std.specs.Prelude.{◌≡◌, ◌≢◌, ◌<◌, ◌≤◌, ◌+◌, ◌↔◌, ℕ, ℤ, pos, Bool, true, false, Option, Some, None, is_some, option_map, List, [], ◌∷◌, ◌++◌, take, map, filter, count_by, slice_get}
 use Rattle.std.specs.List.{filter_map}
 use Rattle.tars_model.specs.Members.{arguments_of, reply_members_of}
+use Rattle.tars_model.specs.declared.value.Value.{Num}
 use Rattle.tars_codec.specs.Written.{written}
 use Rattle.session.specs.RpcPackets.{request_frame, response_frame}
-use Rattle.session.specs.Services.{func_of, node_of, reply_to, service_of}
-use Rattle.session.specs.Courses.{WIDTH, NODE, live_node, outcome}
+use Rattle.session.specs.Replies.{Reply, sum, code, reply_by}
+use Rattle.session.specs.Sessions.{WIDTH, NODE, LINK, live_node, func_of, node_of, rule_of}
 use Rattle.session.specs.declared.link_log.GotFate.TheVariants.{Used}
 use Rattle.session.specs.declared.link_log.GotRow.{GotRow}
 use Rattle.session.specs.declared.link_log.LinkLog.{LinkLog}
@@ -40,15 +41,15 @@ pub record Scripted : Type 0 where
 abbrev pub scripted_after : Bool → List Event → List Scripted
 scripted_after closed [] = []
 scripted_after closed (Call spec ∷ events) = record { spec = spec; closed = closed } ∷ scripted_after closed events
-scripted_after closed (Serve ∷ events) = scripted_after closed events
-scripted_after closed (Work ∷ events) = scripted_after closed events
-scripted_after closed (Deliver ∷ events) = scripted_after closed events
+scripted_after closed (Serve node bytes ∷ events) = scripted_after closed events
+scripted_after closed (Work node ∷ events) = scripted_after closed events
+scripted_after closed (Deliver node bytes ∷ events) = scripted_after closed events
 scripted_after closed (Close ∷ events) = scripted_after true events
 
 abbrev pub scripted : List Event → List Scripted
 scripted events = scripted_after false events
 
--- what a row repeats of its call: its number, its line, its function, and that it waits for a reply
+-- what a row repeats of its call: its number, its line, its function, and whether it waits for a reply
 pub record Heading : Type 0 where
   pub call : ℕ
   pub line : ℕ
@@ -56,7 +57,7 @@ pub record Heading : Type 0 where
   pub two_way : Bool
 
 abbrev pub heading_of_call : CallSpec → Heading
-heading_of_call spec = record { call = spec.call; line = spec.line; func = spec.func; two_way = true }
+heading_of_call spec = record { call = spec.call; line = spec.line; func = spec.func; two_way = spec.two_way }
 
 abbrev pub heading_of : Row → Heading
 heading_of row = record { call = row.call; line = row.line; func = row.func; two_way = row.two_way }
@@ -96,9 +97,15 @@ pick_of _ = live_node
 -- a row that ends by the packet of this number
 abbrev pub packet_of : End → Option ℕ
 packet_of (ValueEnd link packet values) = Some packet
-packet_of (Code link packet code) = Some packet
+packet_of (Code link packet ret) = Some packet
 packet_of Closed = None
 packet_of (Refused why) = None
+
+-- a row ends by what this reply says: its sum alone, or its code
+abbrev pub Says : End → Reply → Type 0
+Says (ValueEnd link packet values) (sum n) = values ≡ Num n ∷ []
+Says (Code link packet ret) (code n) = ret ≡ n
+Says _ _ = ⊥
 
 -- What the router did: the pick of a call, and that its reply was reported.
 
@@ -144,8 +151,8 @@ pub record CameIn (got : List GotRow) (row : Row) (packet : ℕ) (ret : ℤ) (bo
 -- values are what a packet says under the code 0, another code is a packet's own
 abbrev pub IsReplied : Loaded → List GotRow → Row → End → Type 0
 IsReplied l got row (ValueEnd link packet values) =
-    (link ≡ NODE) × CameIn got row packet (pos 0) (written (reply_members_of (func_of l row.func)) values)
-IsReplied l got row (Code link packet code) = (link ≡ NODE) × (code ≢ pos 0) × CameIn got row packet code []
+    (link ≡ LINK) × CameIn got row packet (pos 0) (written (reply_members_of (func_of l row.func)) values)
+IsReplied l got row (Code link packet ret) = (link ≡ LINK) × (ret ≢ pos 0) × CameIn got row packet ret []
 IsReplied l got row Closed = Unit {0}
 IsReplied l got row (Refused why) = Unit {0}
 
@@ -184,7 +191,7 @@ pub record AreReplied (l : Loaded) (rows : List Row) (got : List GotRow) : Type 
   -- each reply is what the rule gives for the arguments of its call
   pub rule :
       (k : ℕ) (row : Row) (call : Scripted) (packet : ℕ) → IsRowAt rows k row → IsCallAt l k call
-      → packet_of row.end ≡ Some packet → row.end ≡ outcome packet (reply_to (service_of l) call.spec.args)
+      → packet_of row.end ≡ Some packet → Says row.end (reply_by (rule_of l) call.spec.args)
   -- each reply is what a packet says that came for its call
   pub packets : (k : ℕ) (row : Row) → IsRowAt rows k row → IsReplied l got row row.end
   -- each packet that settled a call is named by the row with its id
@@ -199,7 +206,8 @@ pub record IsLegal (l : Loaded) (r : Report) : Type 0 where
   pub link : LinkLog
   pub one_link : r.links ≡ link ∷ []
   pub node : link.node ≡ NODE
-  pub whole : (link.torn ≡ []) × (link.rest ≡ [])
+  -- and it was not cut
+  pub whole : (link.torn ≡ []) × (link.rest ≡ []) × (link.cut ≡ None)
   -- a row for each scripted call, in order
   pub rows : map heading_of r.calls ≡ map heading_of_call (filter_map call_of l.events)
   -- no id stands twice

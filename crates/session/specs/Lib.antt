@@ -1,9 +1,12 @@
+pub mod TextLimits
 pub mod Words
+pub mod Refusals
 pub mod InterfaceFile
 pub mod InterfaceVerdicts
 pub mod ScriptText
 pub mod RpcPackets
 pub mod Sessions
+pub mod Replies
 pub mod Services
 pub mod Courses
 pub mod Planned

@@ -8,8 +8,8 @@ use Rattle.session.specs.declared.load_fault.LoadFault.TheVariants.{Refused, Rea
 use Rattle.session.specs.declared.loaded.Loaded.{Loaded}
 use Rattle.session.specs.declared.interface_fault.InterfaceFault.{InterfaceFault}
 use Rattle.session.specs.declared.interface_fault.InterfaceFault.TheVariants as interfaces
-use Rattle.session.specs.InterfaceVerdicts.{words_of}
-use Rattle.session.specs.Loading.{LoadAnswer, loaded, refused, Loads, refusal_line}
+use Rattle.session.specs.Loading.{LoadAnswer, loaded, refused, Loads}
+use Rattle.session.specs.Refusals.{refusal_line, file_fault}
 
 -- what a fault of the files is to one who loads
 abbrev pub fault_of : ReadFault → LoadFault
@@ -29,9 +29,9 @@ IsRefusedBy line (Refused own) = own ≡ line
 IsRefusedBy line Read = ⊥
 IsRefusedBy line Memory = Unit {0}
 
--- a fault refuses an interface file in the words of what is wrong with it, or tells that there was no memory
+-- a fault refuses an interface file for what is wrong with it, or tells that there was no memory
 abbrev pub IsFileRefusedBy : List ℕ → InterfaceFault → LoadFault → Type 0
-IsFileRefusedBy name (interfaces.Refused fault) answer = IsRefusedBy (refusal_line name (words_of fault)) answer
+IsFileRefusedBy name (interfaces.Refused fault) answer = IsRefusedBy (refusal_line name (file_fault fault)) answer
 IsFileRefusedBy name interfaces.Memory answer = answer ≡ Memory
 
 -- where contents are told, loading gives what was answered

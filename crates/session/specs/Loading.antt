@@ -1,33 +1,24 @@
 -- What loading a script gives, where the contents of files are told (docs/SCRIPTS.md, "Loading").
-use Rattle.std.specs.Prelude.{◌≡◌, ℕ, ◌+◌, if◌then◌else◌, ◌⊎◌, Some, None, List, [], ◌∷◌, ◌++◌, codes}
+use Rattle.std.specs.Prelude.{◌≡◌, ℕ, ◌+◌, true, false, if◌then◌else◌, ◌⊎◌, Some, None, List, [], ◌∷◌}
 use Rattle.std.specs.List.{AllByRecursion}
 use Rattle.std.specs.Str.{bytes_eq}
 use Rattle.std.specs.Str.Parse.{digits_value}
 use Rattle.tars_base.specs.Contents.{Contents}
-use Rattle.tars_model.specs.declared.value.Value.{Num}
+use Rattle.tars_model.specs.declared.value.Value.{Value, Num}
+use Rattle.session.specs.declared.loaded.CallSpec.{CallSpec}
 use Rattle.session.specs.declared.loaded.Event.{Event}
 use Rattle.session.specs.declared.loaded.Event.TheVariants.{Call, Serve, Work, Deliver, Close}
 use Rattle.session.specs.declared.loaded.Loaded.{Loaded}
 use Rattle.session.specs.declared.loaded.Rule.TheVariants.{Add}
+use Rattle.session.specs.declared.interface_fault.FileFault.{FileFault}
+use Rattle.session.specs.declared.refused_text.ScriptFault.TheVariants.{Form, Value as BadValue}
 use Rattle.session.specs.InterfaceFile.{InterfaceText, IsJudged}
 use Rattle.session.specs.InterfaceFile as verdict
+use Rattle.session.specs.Refusals.{refusal_line, script_fault, file_fault}
 use Rattle.session.specs.ScriptText.{ScriptText, IsScriptText, EventText, call, serve, work, deliver, close, object_id}
-use Rattle.session.specs.Sessions.{func_of_two, schema_of_one}
+use Rattle.session.specs.Sessions.{NODE, func_of_two, schema_of_one}
 use Rattle.tars_model.specs.Fits.{IsInt}
 use Rattle.session.specs.Words.{number_of}
-
--- The lines of a refusal: the refused file's name, the stage that refused it, a number and a place.
-
-abbrev pub refusal_line : List ℕ → List ℕ → List ℕ
-refusal_line name what = codes "refused " ++ name ++ codes " " ++ what ++ codes "\n"
-
--- a script of no accepted form
-abbrev pub BAD_SCRIPT : List ℕ
-BAD_SCRIPT = codes "script 1 0"
-
--- a name that is not the interface file's, or an argument that is no int
-abbrev pub BAD_VALUE : List ℕ
-BAD_VALUE = codes "script 7 0"
 
 -- What a script and an interface file have to agree on.
 
@@ -48,15 +39,19 @@ pub record Agree (s : ScriptText) (i : InterfaceText) : Type 0 where
 
 -- What is loaded from a script and an interface file that agree.
 
--- calls are numbered from a first number on
+-- a call by the one line of the one function, which waits for its reply and has no key
+abbrev pub two_way_call : ℕ → List Value → CallSpec
+two_way_call n args =
+    record { call = n; line = 1; func = 0; two_way = true; begin = false; key = 0; args = args }
+
+-- calls are numbered from a first number on; a read takes all that waits
 abbrev pub events_from : ℕ → List EventText → List Event
 events_from n [] = []
 events_from n (call func a b ∷ events) =
-    Call (record { call = n; line = 1; func = 0; args = Num (number_of a) ∷ Num (number_of b) ∷ [] })
-    ∷ events_from (n + 1) events
-events_from n (serve ∷ events) = Serve ∷ events_from n events
-events_from n (work ∷ events) = Work ∷ events_from n events
-events_from n (deliver ∷ events) = Deliver ∷ events_from n events
+    Call (two_way_call n (Num (number_of a) ∷ Num (number_of b) ∷ [])) ∷ events_from (n + 1) events
+events_from n (serve ∷ events) = Serve NODE None ∷ events_from n events
+events_from n (work ∷ events) = Work NODE ∷ events_from n events
+events_from n (deliver ∷ events) = Deliver NODE None ∷ events_from n events
 events_from n (close ∷ events) = Close ∷ events_from n events
 
 -- the place of a parameter among the arguments
@@ -95,19 +90,19 @@ pub data Loads (contents : Contents) (script : List ℕ) : LoadAnswer → Type 0
   no_script : contents script ≡ None → Loads contents script (unread script)
   bad_script :
       (text : List ℕ) → contents script ≡ Some text → ((s : ScriptText) → IsScriptText s text → ⊥)
-      → Loads contents script (refused (refusal_line script BAD_SCRIPT))
+      → Loads contents script (refused (refusal_line script (script_fault Form)))
   no_interface :
       (text : List ℕ) (s : ScriptText) → contents script ≡ Some text → IsScriptText s text
       → contents s.client ≡ None
       → Loads contents script (unread s.client)
   bad_interface :
-      (text file what : List ℕ) (s : ScriptText) → contents script ≡ Some text → IsScriptText s text
-      → contents s.client ≡ Some file → IsJudged file (verdict.refused what)
-      → Loads contents script (refused (refusal_line s.client what))
+      (text file : List ℕ) (fault : FileFault) (s : ScriptText) → contents script ≡ Some text → IsScriptText s text
+      → contents s.client ≡ Some file → IsJudged file (verdict.refused fault)
+      → Loads contents script (refused (refusal_line s.client (file_fault fault)))
   bad_value :
       (text file : List ℕ) (s : ScriptText) (i : InterfaceText) → contents script ≡ Some text → IsScriptText s text
       → contents s.client ≡ Some file → IsJudged file (verdict.accepted i) → (Agree s i → ⊥)
-      → Loads contents script (refused (refusal_line script BAD_VALUE))
+      → Loads contents script (refused (refusal_line script (script_fault BadValue)))
   session :
       (text file : List ℕ) (s : ScriptText) (i : InterfaceText) → contents script ≡ Some text → IsScriptText s text
       → contents s.client ≡ Some file → IsJudged file (verdict.accepted i) → Agree s i

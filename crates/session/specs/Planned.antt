@@ -16,7 +16,8 @@ use Rattle.session.specs.declared.report.RouteStep.TheVariants.{Picked, Reported
 use Rattle.session.specs.declared.report.Row.{Row}
 use Rattle.session.specs.declared.service.Service.{Service}
 use Rattle.session.specs.Services.{service_of}
-use Rattle.session.specs.Courses.{NODE, Course, Opened, opened, sent_frame, received, after_all}
+use Rattle.session.specs.Sessions.{NODE}
+use Rattle.session.specs.Courses.{Course, Opened, opened, sent_frame, received, after_all}
 
 -- The rows that come of it. What is still open ends as closed.
 
@@ -26,7 +27,7 @@ row_of call =
       call = call.call;
       line = call.line;
       func = call.func;
-      two_way = true;
+      two_way = call.two_way;
       pick = call.pick;
       id = call.id;
       end = unwrap_or call.end Closed;
@@ -66,6 +67,7 @@ link_log s c =
       torn = [];
       got = got_rows (received s c) c.fates;
       rest = [];
+      cut = None;
     }
 
 abbrev pub report_of : Service → Course → Report

@@ -20,7 +20,8 @@ use Rattle.session.specs.declared.report.Report.{Report}
 use Rattle.session.specs.declared.report.Row.{Row}
 use Rattle.session.specs.declared.report.Why.{Why}
 use Rattle.session.specs.declared.report.Why.TheVariants.{Live}
-use Rattle.session.specs.Services.{func_of, number_of_layer}
+use Rattle.session.specs.Replies.{number_of_layer}
+use Rattle.session.specs.Sessions.{func_of}
 
 -- The line of a call: `call K line L FUNC[ node N WHY][ id I] END`.
 
@@ -89,10 +90,13 @@ abbrev pub numbered_lines : {X : Type 0} → (ℕ → X → List ℕ) → ℕ �
 numbered_lines line place [] = []
 numbered_lines line place (row ∷ rows) = line place row ++ numbered_lines line (place + 1) rows
 
--- what was sent to a node, then what was got from it
-abbrev pub link_lines : List Row → LinkLog → List ℕ
-link_lines rows link =
-    numbered_lines (sent_line link.node) 1 link.sent ++ numbered_lines (got_line rows link.node) 1 link.got
+-- what was sent to a node
+abbrev pub sent_lines : LinkLog → List ℕ
+sent_lines link = numbered_lines (sent_line link.node) 1 link.sent
+
+-- what was got from a node
+abbrev pub got_lines : List Row → LinkLog → List ℕ
+got_lines rows link = numbered_lines (got_line rows link.node) 1 link.got
 
 -- `done calls C two-way T one-way O`
 unfoldable pub done_line : List Row → List ℕ
@@ -100,7 +104,8 @@ done_line rows =
     codes "done calls " ++ decimal (length rows) ++ codes " two-way " ++ decimal (count_by (λ row. row.two_way) rows)
     ++ codes " one-way " ++ decimal (count_by (λ row. not row.two_way) rows) ++ codes "\n"
 
--- the lines of the calls, those of each node, and the last line
+-- the lines of the calls, the sent lines of all nodes, the got lines of all nodes, and the last line
 abbrev pub report_text_of : Loaded → Report → List ℕ
 report_text_of l report =
-    flat_map (call_line l) report.calls ++ flat_map (link_lines report.calls) report.links ++ done_line report.calls
+    flat_map (call_line l) report.calls ++ flat_map sent_lines report.links
+    ++ flat_map (got_lines report.calls) report.links ++ done_line report.calls

@@ -51,18 +51,22 @@ response_members =
     ∷ text_member 8 false (codes "sResultDesc")
     ∷ []
 
--- what a request that is written is like: ids and timeouts are ints, and no text is longer than a line
+-- the longest text that is put into a packet: a line of a script has no longer one
+abbrev pub MAX_TEXT : ℕ
+MAX_TEXT = 4096
+
+-- what a request that is written is like: ids and timeouts are ints, and no text is too long
 pub record IsSendable (r : Request) : Type 0 where
   pub id : r.id < 2 ^ 31
-  pub servant : length r.servant ≤ 4096
-  pub func : length r.func ≤ 4096
-  pub body : length r.body ≤ 4096
+  pub servant : length r.servant ≤ MAX_TEXT
+  pub func : length r.func ≤ MAX_TEXT
+  pub body : length r.body ≤ MAX_TEXT
   pub timeout : r.timeout < 2 ^ 31
 
 pub record IsAnswerable (r : Response) : Type 0 where
   pub id : r.id < 2 ^ 31
   pub ret_int : IsInt r.ret
-  pub body : length r.body ≤ 4096
+  pub body : length r.body ≤ MAX_TEXT
 
 -- version 1, a normal call, message type 0, no context and no status
 unfoldable pub request_values : Request → List Value

@@ -1,8 +1,10 @@
 -- Reading from the front of bytes.
-use Rattle.std.specs.Prelude.{◌≡◌, ℕ, Bool, ◌&&◌, ◌==◌, not, nat_le, if◌then◌else◌, slice_index, List, length, take, drop, Option, Some, None, position}
-use Rattle.std.specs.List.{list_all, list_any}
+use Rattle.std.specs.Prelude.{◌≡◌, ℕ, Bool, ◌&&◌, ◌==◌, not, nat_le, if◌then◌else◌, slice_index, List, length, take, drop, Option, Some, None, is_some, position}
+use Rattle.std.specs.List.{list_all}
 use Rattle.std.specs.Str.{bytes_eq, is_utf8}
-use Rattle.session.specs.Words.{is_letter, keywords}
+use Rattle.idl_parse.specs.Lexing.{keyword_of}
+use Rattle.session.specs.TextLimits.{MAX_NAME}
+use Rattle.session.specs.Words.{is_letter}
 use Rattle.wire_words.specs.Bind.{◌>>=◌}
 
 -- what a function returned, seen by view, is what reading gives
@@ -64,13 +66,13 @@ abbrev pub ◌&>◌ : {V W : Type 0} → Front V → Whole W → Whole (V × W)
   w ← next v.1
   Some (v.0, w)
 
--- one of the words that are no names
+-- a keyword of the interface language
 unfoldable pub is_keyword : List ℕ → Bool
-is_keyword bytes = list_any (λ word. bytes_eq word bytes) keywords
+is_keyword bytes = is_some (keyword_of bytes)
 
 -- the test of a name
 unfoldable pub is_name : List ℕ → Bool
-is_name bytes = nat_le 1 (length bytes) && nat_le (length bytes) 32 && list_all is_letter bytes && not (is_keyword bytes)
+is_name bytes = nat_le 1 (length bytes) && nat_le (length bytes) MAX_NAME && list_all is_letter bytes && not (is_keyword bytes)
 
 -- the bytes, if they are a name
 unfoldable pub name : Whole (List ℕ)

@@ -9,8 +9,8 @@ use Rattle.session.specs.declared.script.header.InterfaceName.{InterfaceName}
 use Rattle.session.specs.declared.script.header.RuleText.{RuleText}
 use Rattle.session.specs.Numbers.{natural_within, number}
 use Rattle.session.specs.Reading.{EventValue, event_of, call, serve, work, deliver, close}
-use Rattle.session.specs.InterfaceFile.{MAX_FILE}
-use Rattle.session.specs.ScriptText.{MAX_LINE, MAX_CALLS, is_part_byte, is_host_byte}
+use Rattle.session.specs.TextLimits.{MAX_FILE, MAX_LINE, MAX_CALLS, MAX_PORT, MAX_TIMEOUT}
+use Rattle.session.specs.ScriptText.{is_part_byte, is_host_byte}
 use Rattle.wire_words.specs.Bind.{◌>>=◌}
 use Rattle.session.specs.Scan.{Whole, Front, tested, skip, before, within, ◌&◌, ◌&>◌, name, name_before, utf8}
 
@@ -60,7 +60,7 @@ id bytes = do
 
 -- the host, the port and the timeout
 unfoldable pub node : Whole (List ℕ × (ℕ × ℕ))
-node = before (codes " -p ") host &> (before (codes " -t ") (natural_within 1 65535) &> natural_within 1 3600000)
+node = before (codes " -p ") host &> (before (codes " -t ") (natural_within 1 MAX_PORT) &> natural_within 1 MAX_TIMEOUT)
 
 -- the third line: the id, and the node
 unfoldable pub object_at : Front (List ℕ × (List ℕ × (ℕ × ℕ)))

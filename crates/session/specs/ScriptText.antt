@@ -2,13 +2,7 @@
 use Rattle.std.specs.Prelude.{◌≡◌, ◌≤◌, ℕ, Bool, true, false, ◌||◌, ◌==◌, not, ◌⊎◌, List, ◌∷◌, ◌++◌, length, map, count_by, codes, IsUtf8}
 use Rattle.std.specs.List.{list_all, flat_map, AllByRecursion}
 use Rattle.session.specs.Words.{is_letter, is_digit, IsName, is_number, IsNaturalWithin}
-use Rattle.session.specs.InterfaceFile.{MAX_FILE}
-
-abbrev pub MAX_LINE : ℕ
-MAX_LINE = 4096
-
-abbrev pub MAX_CALLS : ℕ
-MAX_CALLS = 4096
+use Rattle.session.specs.TextLimits.{MAX_FILE, MAX_LINE, MAX_CALLS, MAX_PORT, MAX_TIMEOUT}
 
 -- an event, as its line says it; the numbers of a call are texts
 pub data EventText : Type 0 where
@@ -94,8 +88,8 @@ pub record IsObject (o : ObjectText) : Type 0 where
   pub server : IsWordOf is_part_byte o.server
   pub object : IsWordOf is_part_byte o.object
   pub host : IsWordOf is_host_byte o.host
-  pub port : IsNaturalWithin 1 65535 o.port
-  pub timeout : IsNaturalWithin 1 3600000 o.timeout
+  pub port : IsNaturalWithin 1 MAX_PORT o.port
+  pub timeout : IsNaturalWithin 1 MAX_TIMEOUT o.timeout
 
 abbrev pub IsEvent : EventText → Type 0
 IsEvent (call func a b) = IsName func × (is_number a ≡ true) × (is_number b ≡ true)

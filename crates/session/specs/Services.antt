@@ -1,20 +1,16 @@
--- What the calls of a script go to, and what is asked and answered (docs/SCRIPTS.md, "Rules").
-use Rattle.std.specs.Prelude.{◌≡◌, ◌<◌, ◌≤◌, ◌^◌, length, ℕ, if◌then◌else◌, ℤ, pos, negsuc, ◌+ℤ◌, List, [], ◌∷◌, slice_index_or}
+-- What the calls of a script go to, and what is asked and answered.
+use Rattle.std.specs.Prelude.{◌≡◌, ◌<◌, ◌≤◌, ◌^◌, length, ℕ, ℤ, pos, List, [], ◌∷◌}
 use Rattle.std.specs.List.{AllByRecursion}
-use Rattle.tars_model.specs.declared.func_desc.FuncDesc.{FuncDesc}
-use Rattle.tars_model.specs.declared.interface_desc.InterfaceDesc.{InterfaceDesc}
-use Rattle.tars_model.specs.declared.value.Value.{Value, Num, out-Value}
-use Rattle.tars_model.specs.declared.value.Value.TheOpen as layer
-use Rattle.tars_model.specs.declared.value.Pair.{Pair}
+use Rattle.tars_model.specs.declared.value.Value.{Value, Num}
 use Rattle.tars_model.specs.Members.{arguments_of, reply_members_of, required}
 use Rattle.tars_model.specs.declared.ty.Ty.{Int}
 use Rattle.tars_codec.specs.Written.{written}
 use Rattle.session.specs.declared.rpc_packet.request.Request.{Request}
 use Rattle.session.specs.declared.rpc_packet.response.Response.{Response}
-use Rattle.session.specs.RpcPackets.{request_members, response_members, request_frame}
-use Rattle.session.specs.Sessions.{func_of_two}
-use Rattle.tars_model.specs.Fits.{IsInt, is_int}
-use Rattle.session.specs.declared.loaded.Endpoint.{Endpoint}
+use Rattle.session.specs.RpcPackets.{MAX_TEXT, request_members, response_members, request_frame}
+use Rattle.session.specs.Replies.{Reply, sum, code, reply_by}
+use Rattle.session.specs.Sessions.{func_of, node_of, rule_of}
+use Rattle.tars_model.specs.Fits.{IsInt}
 use Rattle.session.specs.declared.loaded.Event.{Event}
 use Rattle.session.specs.declared.loaded.Event.TheVariants.{Call}
 use Rattle.session.specs.declared.loaded.Loaded.{Loaded}
@@ -24,23 +20,11 @@ use Rattle.session.specs.declared.service.Service.{Service}
 
 -- What the calls go to.
 
-abbrev pub interface_of : Loaded → InterfaceDesc
-interface_of l = slice_index_or l.client.interfaces l.client_interface (record { «module» = []; name = []; funcs = [] })
-
-abbrev pub func_of : Loaded → ℕ → FuncDesc
-func_of l k = slice_index_or (interface_of l).funcs k (func_of_two [] [] [])
-
-abbrev pub node_of : Loaded → Endpoint
-node_of l = slice_index_or l.object.nodes 0 (record { host = []; port = 0; timeout = 0 })
-
 abbrev pub left_of : Rule → ℕ
 left_of (Add left right) = left
 
 abbrev pub right_of : Rule → ℕ
 right_of (Add left right) = right
-
-abbrev pub rule_of : Loaded → Rule
-rule_of l = (slice_index_or l.rules 0 (record { func = 0; rule = Add 0 0 })).rule
 
 unfoldable pub service_of : Loaded → Service
 service_of l =
@@ -56,27 +40,9 @@ service_of l =
       response = response_members;
     }
 
--- What a node replies to a call: the sum, or the code for an unknown error where it is no int.
-
-pub data Reply : Type 0 where
-  sum : ℤ → Reply
-  code : ℤ → Reply
-
-abbrev pub UNKNOWN : ℤ
-UNKNOWN = negsuc 98
-
-abbrev pub number_of_layer : layer.Value-F Value Pair → ℤ
-number_of_layer (layer.Num n) = n
-number_of_layer _ = pos 0
-
-abbrev pub argument : List Value → ℕ → ℤ
-argument args k = number_of_layer (out-Value (slice_index_or args k (Num (pos 0))))
-
-abbrev pub added : ℤ → Reply
-added n = if is_int n then sum n else code UNKNOWN
-
+-- what the node replies to a call
 abbrev pub reply_to : Service → List Value → Reply
-reply_to s args = added (argument args s.left +ℤ argument args s.right)
+reply_to s args = reply_by (Add s.left s.right) args
 
 -- The request and the response of a call that was opened under an id.
 
@@ -94,8 +60,8 @@ response_of s args id = response_with s id (reply_to s args)
 
 -- two ints go in, one comes back
 pub record IsService (s : Service) : Type 0 where
-  pub id_short : length s.id ≤ 4096
-  pub func_short : length s.func ≤ 4096
+  pub id_short : length s.id ≤ MAX_TEXT
+  pub func_short : length s.func ≤ MAX_TEXT
   pub timeout_small : s.timeout < 2 ^ 31
   pub left_place : s.left < 2
   pub right_place : s.right < 2

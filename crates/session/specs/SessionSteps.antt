@@ -14,7 +14,8 @@ use Rattle.session.specs.declared.script.object.ObjectText.{ObjectText}
 use Rattle.session.specs.InterfaceFile.{InterfaceText}
 use Rattle.session.specs.Reading.{EventValue, event_of, call, serve, work, deliver, close}
 use Rattle.wire_words.specs.Bind.{◌>>=◌}
-use Rattle.session.specs.Sessions.{func_of_two, schema_of_one}
+use Rattle.session.specs.Loading.{two_way_call}
+use Rattle.session.specs.Sessions.{NODE, func_of_two, schema_of_one}
 
 -- the place of a parameter among the arguments, if it is one
 unfoldable pub place_in : InterfaceText → List ℕ → Option ℕ
@@ -30,15 +31,15 @@ rule_in i left right = do
 
 -- a call by the one line of the one function, with two numbers
 unfoldable pub call_with : ℕ → ℤ → ℤ → CallSpec
-call_with n a b = record { call = n; line = 1; func = 0; args = Num a ∷ Num b ∷ [] }
+call_with n a b = two_way_call n (Num a ∷ Num b ∷ [])
 
 -- an event, where the next call has a number; a call is of the function, and has two ints
 unfoldable pub event_in : List ℕ → ℕ → EventValue → Option Event
 event_in func n (call name (Some a) (Some b)) = if bytes_eq name func then Some (Call (call_with n a b)) else None
 event_in func n (call name _ _) = None
-event_in func n serve = Some Serve
-event_in func n work = Some Work
-event_in func n deliver = Some Deliver
+event_in func n serve = Some (Serve NODE None)
+event_in func n work = Some (Work NODE)
+event_in func n deliver = Some (Deliver NODE None)
 event_in func n close = Some Close
 
 -- the number of the call that comes behind an event

@@ -8,7 +8,8 @@ use Rattle.session.specs.declared.link_log.GotRow.{GotRow}
 use Rattle.session.specs.declared.pending.Pending.{Pending}
 use Rattle.session.specs.declared.plan.Plan.{Plan}
 use Rattle.session.specs.declared.service.Service.{Service}
-use Rattle.session.specs.Courses.{WIDTH, is_open_under, settle, outcome, fate_of, closed_call, Course, Opened, opened, sent_frame, answer_frame, joined, step, after_all}
+use Rattle.session.specs.Sessions.{WIDTH}
+use Rattle.session.specs.Courses.{is_open_under, settle, outcome, fate_of, closed_call, Course, Opened, opened, sent_frame, answer_frame, joined, step, after_all}
 use Rattle.session.specs.Planned.{sent_row, got_rows}
 use Rattle.session.specs.Services.{IsService, AreTwoInts, reply_to}
 
@@ -58,10 +59,14 @@ pub record IsSameScript (old new : Plan) : Type 0 where
   pub events_are : new.events.now ≡ old.events.now
   pub done_is : new.done ≡ old.done
 
--- after an event the plan keeps what the course says then
-pub record Follows (old new : Plan) (event : Event) : Type 0 where
+-- what is left as it was, and what has happened now
+pub record Becomes (old new : Plan) (c : Course) : Type 0 where
   pub same : IsSameScript old new
-  pub tracks : Tracks new (step old.service (course_of old) event)
+  pub tracks : Tracks new c
+
+-- after an event the plan keeps what the course says then
+abbrev pub Follows : Plan → Plan → Event → Type 0
+Follows old new event = Becomes old new (step old.service (course_of old) event)
 
 -- one more event has happened
 pub record Advances (old new : Plan) : Type 0 where

@@ -1,7 +1,10 @@
 -- How names and numbers are written (docs/SCRIPTS.md, "Names and numbers").
-use Rattle.std.specs.Prelude.{◌≡◌, ◌≢◌, ◌≤◌, ℕ, Bool, true, false, ◌&&◌, ◌||◌, ◌==◌, nat_le, nat_lt, if◌then◌else◌, slice_index, ℤ, pos, neg_ℤ, List, [], ◌∷◌, length, codes}
-use Rattle.std.specs.List.{list_all, AllByRecursion}
+use Rattle.std.specs.Prelude.{◌≡◌, ◌≢◌, ◌≤◌, ℕ, Bool, true, false, ◌&&◌, ◌||◌, ◌==◌, nat_le, nat_lt, if◌then◌else◌, slice_index, ℤ, pos, neg_ℤ, List, [], ◌∷◌, length}
+use Rattle.std.specs.List.{list_all}
 use Rattle.std.specs.Str.Parse.{digits_value}
+use Rattle.idl_parse.specs.declared.keyword.Keyword.{Keyword}
+use Rattle.idl_parse.specs.Spellings.{keyword_text}
+use Rattle.session.specs.TextLimits.{MAX_NAME}
 
 -- `0`
 abbrev pub ZERO : ℕ
@@ -17,20 +20,12 @@ is_letter c = (nat_le 65 c && nat_le c 90) || (nat_le 97 c && nat_le c 122)
 abbrev pub is_digit : ℕ → Bool
 is_digit c = nat_le 48 c && nat_le c 57
 
--- the words of the interface language, which are no names
-abbrev pub keywords : List (List ℕ)
-keywords =
-    codes "void" ∷ codes "struct" ∷ codes "bool" ∷ codes "byte" ∷ codes "short" ∷ codes "int" ∷ codes "long"
-    ∷ codes "float" ∷ codes "double" ∷ codes "string" ∷ codes "vector" ∷ codes "map" ∷ codes "key"
-    ∷ codes "routekey" ∷ codes "module" ∷ codes "interface" ∷ codes "out" ∷ codes "require"
-    ∷ codes "optional" ∷ codes "false" ∷ codes "true" ∷ codes "enum" ∷ codes "const" ∷ codes "unsigned" ∷ []
-
--- a name: 1 to 32 letters, and no keyword
+-- a name: 1 to 32 letters, and no keyword of the interface language
 pub record IsName (bytes : List ℕ) : Type 0 where
   pub some : 1 ≤ length bytes
-  pub short : length bytes ≤ 32
+  pub short : length bytes ≤ MAX_NAME
   pub letters : list_all is_letter bytes ≡ true
-  pub no_keyword : AllByRecursion (λ word. bytes ≢ word) keywords
+  pub no_keyword : (keyword : Keyword) → bytes ≢ keyword_text keyword
 
 -- digits without a leading zero
 abbrev pub is_natural : List ℕ → Bool

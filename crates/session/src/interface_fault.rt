@@ -1,11 +1,9 @@
-ghost use Rattle.std.specs.Prelude.{◌≡◌, Some};
-ghost use Rattle.session.specs.InterfaceVerdicts.{words_of, lex_refused, parse_refused};
+ghost use Rattle.std.specs.Prelude.{◌≡◌};
+ghost use Rattle.session.specs.InterfaceVerdicts.{lex_refused, parse_refused};
 
 use idl_parse::{LexFault, LexWhy, ParseFault, ParseWhy};
-use std::fmt;
 
-/// What is wrong with an interface file. It prints as the stage, the number and the place of a
-/// refusal.
+/// What is wrong with an interface file.
 #[derive(Clone, Copy, Debug, PartialEq, Eq)]
 pub enum FileFault {
     /// It has more bytes than any file that is read.
@@ -16,25 +14,6 @@ pub enum FileFault {
     Parse { at: u32, why: ParseWhy },
     /// It is more than one function of two ints.
     Shape,
-}
-
-impl fmt::Display for FileFault {
-    ghost output = { λ fault. Some (words_of fault) };
-
-    fn fmt<W: fmt::Write>(&self, f: &mut fmt::Formatter<W>) -> fmt::Result {
-        match self {
-            FileFault::TooLong => f.write_str("parse 5 0"),
-            FileFault::Lex { at, why } => {
-                let number = why.number();
-                write!(f, "lex {number} {at}")
-            }
-            FileFault::Parse { at, why } => {
-                let number = why.number();
-                write!(f, "parse {number} {at}")
-            }
-            FileFault::Shape => f.write_str("check 11 0"),
-        }
-    }
 }
 
 /// Why an interface file gives no names.

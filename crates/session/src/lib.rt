@@ -11,6 +11,7 @@ mod loading;
 mod mode;
 mod pending;
 mod plan;
+mod refused_text;
 mod report;
 mod report_lines;
 mod rpc_packet;
@@ -22,7 +23,7 @@ mod service;
 mod tars_frames;
 
 pub(crate) use interface_file::{InterfaceText, read_interface};
-pub use link_log::{GotFate, GotRow, LinkLog, SentRow};
+pub use link_log::{Cut, GotFate, GotRow, LinkLog, SentRow};
 pub use load_fault::LoadFault;
 pub use loaded::{CallSpec, Endpoint, Event, FuncRule, Loaded, ObjectName, Rule};
 pub use loading::load;

@@ -24,6 +24,21 @@ pub struct GotRow {
     pub fate: GotFate,
 }
 
+/// Why nothing more passes on a link.
+#[derive(Clone, Copy, Debug, PartialEq, Eq)]
+pub enum Cut {
+    /// It could not be read or written.
+    Failed,
+    /// It ended.
+    Ended,
+    /// The bytes at this place give a length that no packet has.
+    Length { at: u64, length: u32 },
+    /// A packet is no response.
+    Response,
+    /// It was cut before.
+    Down,
+}
+
 /// What passed on the link to a node.
 #[derive(Debug, Drop)]
 pub struct LinkLog {
@@ -32,6 +47,8 @@ pub struct LinkLog {
     /// What was written of a frame that was not written whole.
     pub torn: Bytes8,
     pub got: List<GotRow>,
-    /// What was read behind the last whole packet.
+    /// What was read after the last whole packet.
     pub rest: Bytes8,
+    /// Why it was cut, if it was.
+    pub cut: Option<Cut>,
 }

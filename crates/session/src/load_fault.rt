@@ -5,18 +5,14 @@ ghost use Rattle.session.specs.declared.load_fault.LoadFault.TheVariants.{Memory
 use std::alloc::AllocError;
 use tars_base::ReadFault;
 use tars_model::Bytes8;
-use thiserror::Error;
 
 /// Why a script was not loaded.
-#[derive(Debug, Drop, Error)]
+#[derive(Debug, Drop)]
 pub enum LoadFault {
     /// A text that was read whole is refused, by this line.
-    #[error("refused")]
     Refused { line: Bytes8 },
     /// A file could not be read.
-    #[error("read fault")]
     Read,
-    #[error("no memory")]
     Memory,
 }
 

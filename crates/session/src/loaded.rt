@@ -1,5 +1,8 @@
 use tars_model::{List, Name, Schema, Value};
 
+/// The number of the one node.
+pub(crate) const NODE: u32 = 1;
+
 /// A node of an object: where it listens, and how long a call to it may take.
 #[derive(Debug, Drop)]
 pub struct Endpoint {
@@ -39,6 +42,12 @@ pub struct CallSpec {
     pub line: u32,
     /// The function's number in its interface, from 0.
     pub func: u32,
+    /// Whether it waits for a reply.
+    pub two_way: bool,
+    /// Whether its line goes on before the reply has come.
+    pub begin: bool,
+    /// What nodes are chosen by.
+    pub key: u64,
     pub args: List<Value>,
 }
 
@@ -46,9 +55,12 @@ pub struct CallSpec {
 #[derive(Debug, Drop)]
 pub enum Event {
     Call(CallSpec),
-    Serve,
-    Work,
-    Deliver,
+    /// The node reads so many of the bytes that wait, or all of them.
+    Serve { node: u32, bytes: Option<u32> },
+    /// The node answers its first request.
+    Work { node: u32 },
+    /// The caller reads so many of the bytes that wait of the node, or all of them.
+    Deliver { node: u32, bytes: Option<u32> },
     Close,
 }
 

@@ -2,15 +2,17 @@
 
 ghost use Rattle.std.specs.Prelude.{◌≡◌, IfOk, IfSome};
 ghost use Rattle.session.specs.LoadAnswers.{answer_of, IsGiven, IsOnlyGiven, IsRefusedBy, IsFileRefusedBy};
-ghost use Rattle.session.specs.Loading.{IsLoaded, Loads, refusal_line};
+ghost use Rattle.session.specs.Loading.{IsLoaded, Loads};
+ghost use Rattle.session.specs.Refusals.{refusal_line, script_fault};
 ghost use Rattle.tars_base.specs.Causes.{HasCauseOf};
 ghost use Rattle.tars_base.specs.Contents.{IsToldOnly};
 
 use crate::interface_fault::InterfaceFault;
+use crate::refused_text::{RefusedText, ScriptFault, TextFault};
 use crate::scan::MAX_FILE;
 use crate::{LoadFault, Loaded, Mode, read_interface, read_script};
 use session::session_of;
-use std::alloc::{AllocError, Global};
+use std::alloc::Global;
 use tars_base::Files;
 use tars_model::Bytes8;
 
@@ -20,43 +22,32 @@ mod session;
 /// What is read of a file: one byte more than an accepted one can have.
 const MOST: usize = MAX_FILE + 1;
 
-/// A script of no accepted form.
-const BAD_SCRIPT: &[u8] = b"script 1 0";
-
-/// A name that is not the interface file's, or an argument that is no int.
-const BAD_VALUE: &[u8] = b"script 7 0";
-
-fn refusal_line(alloc: Global, name: &str, what: &[u8]) -> Result<Bytes8, AllocError>
-    ensures { IfOk result (λ line. line ≡ refusal_line name.now what.now) }
+/// Refuses the text of a file, if there is memory for the line.
+fn refused(alloc: Global, file: &str, fault: TextFault) -> LoadFault
+    ensures { IsRefusedBy (refusal_line file.now fault) result }
 {
-    let mut line = Vec::from_slice(alloc, b"refused ")?;
-    line.extend_from_slice(name.as_bytes())?;
-    line.push(b' ')?;
-    line.extend_from_slice(what)?;
-    line.push(b'\n')?;
-    Ok(Bytes8::from_vec(line))
+    match (RefusedText { file, fault }).to_string(alloc) {
+        Ok(line) => LoadFault::Refused {
+            line: Bytes8::from_vec(line.into_bytes()),
+        },
+        Err(_) => LoadFault::Memory,
+    }
 }
 
-/// Refuses the file of this name, if there is memory for the line.
-fn refused(alloc: Global, name: &str, what: &[u8]) -> LoadFault
-    ensures { IsRefusedBy (refusal_line name.now what.now) result }
+/// Refuses a script, if there is memory for the line.
+fn refused_script(alloc: Global, name: &str, fault: ScriptFault) -> LoadFault
+    ensures { IsRefusedBy (refusal_line name.now (script_fault fault)) result }
 {
-    match refusal_line(alloc, name, what) {
-        Ok(line) => LoadFault::Refused { line },
-        Err(AllocError) => LoadFault::Memory,
-    }
+    refused(alloc, name, TextFault::from(fault))
 }
 
 /// Refuses an interface file, if there is memory for the line.
 fn refused_file(alloc: Global, name: &str, fault: InterfaceFault) -> LoadFault
     ensures { IsFileRefusedBy name.now fault result }
 {
-    let InterfaceFault::Refused(fault) = fault else {
-        return LoadFault::Memory;
-    };
-    match fault.to_string(alloc) {
-        Ok(what) => refused(alloc, name, what.as_bytes()),
-        Err(_) => LoadFault::Memory,
+    match fault {
+        InterfaceFault::Refused(fault) => refused(alloc, name, TextFault::from(fault)),
+        InterfaceFault::Memory => LoadFault::Memory,
     }
 }
 
@@ -69,7 +60,7 @@ fn load_plan<F: Files>(alloc: Global, files: &mut F, name: &str) -> Result<Loade
 {
     let text = files.read(alloc, name, MOST)?;
     let Some(script) = read_script(alloc, &text)? else {
-        return Err(refused(alloc, name, BAD_SCRIPT));
+        return Err(refused_script(alloc, name, ScriptFault::Form));
     };
     let file = files.read(alloc, script.client, MOST)?;
     let interface = match read_interface(alloc, script.client, &file) {
@@ -78,7 +69,7 @@ fn load_plan<F: Files>(alloc: Global, files: &mut F, name: &str) -> Result<Loade
     };
     match session_of(alloc, &interface, &script)? {
         Some(loaded) => Ok(loaded),
-        None => Err(refused(alloc, name, BAD_VALUE)),
+        None => Err(refused_script(alloc, name, ScriptFault::Value)),
     }
 }
 

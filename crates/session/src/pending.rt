@@ -9,6 +9,7 @@ pub(crate) struct Pending {
     pub call: u32,
     pub line: u32,
     pub func: u32,
+    pub two_way: bool,
     pub pick: Option<PickNote>,
     pub id: Option<CallId>,
     /// None while the call is open.

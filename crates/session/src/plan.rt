@@ -93,9 +93,9 @@ impl<'a> Plan<'a> {
     {
         match event {
             Event::Call(spec) => self.call(alloc, spec),
-            Event::Serve => self.serve(alloc),
-            Event::Work => self.work(alloc),
-            Event::Deliver => self.deliver(alloc),
+            Event::Serve { .. } => self.serve(alloc),
+            Event::Work { .. } => self.work(alloc),
+            Event::Deliver { .. } => self.deliver(alloc),
             Event::Close => {
                 self.close();
                 Ok(())

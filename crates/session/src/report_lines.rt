@@ -18,7 +18,8 @@ pub fn report_text(alloc: Global, loaded: &Loaded, report: &Report) -> Result<Ve
 {
     let mut lines = Lines::new(alloc);
     lines.put_calls(loaded, report.calls.as_slice())?;
-    lines.put_links(report.calls.as_slice(), report.links.as_slice())?;
+    lines.put_sent(report.links.as_slice())?;
+    lines.put_got(report.calls.as_slice(), report.links.as_slice())?;
     lines.put_done(report.calls.as_slice())?;
     Ok(lines.into_text())
 }

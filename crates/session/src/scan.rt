@@ -7,6 +7,7 @@ ghost use Rattle.session.specs.Words.{is_letter};
 ghost use Rattle.session.specs.Scan.{Gives, after, word_before, is_keyword, is_name};
 ghost use Rattle.session.specs.Scan.{name, name_before, utf8};
 
+use idl_parse::Keyword;
 use std::str;
 
 /// The longest file that is read, in bytes.
@@ -14,34 +15,6 @@ pub const MAX_FILE: usize = 1_048_576;
 
 /// The longest name, in bytes.
 const MAX_NAME: usize = 32;
-
-/// The words of the interface language, which are no names.
-const KEYWORDS: [&[u8]; 24] = [
-    b"void",
-    b"struct",
-    b"bool",
-    b"byte",
-    b"short",
-    b"int",
-    b"long",
-    b"float",
-    b"double",
-    b"string",
-    b"vector",
-    b"map",
-    b"key",
-    b"routekey",
-    b"module",
-    b"interface",
-    b"out",
-    b"require",
-    b"optional",
-    b"false",
-    b"true",
-    b"enum",
-    b"const",
-    b"unsigned",
-];
 
 /// What stands behind the literal.
 #[tactic(auto, unfolding(crate::specs::Scan::after))]
@@ -70,11 +43,12 @@ pub fn word_before<'a>(text: &'a [u8], literal: &[u8]) -> Option<(&'a [u8], &'a 
     Some((word, after(rest, literal)?))
 }
 
-#[tactic(auto, unfolding(crate::specs::Scan::is_keyword))]
+/// Whether the bytes are a keyword of the interface language.
+#[tactic(auto, using(crate::proofs::Names::keyword_test))]
 fn is_keyword(word: &[u8]) -> bool
     ensures { result ≡ is_keyword word.now }
 {
-    KEYWORDS.contains(&word)
+    Keyword::from_word(word).is_some()
 }
 
 fn has_only_letters(word: &[u8]) -> bool

@@ -5,7 +5,8 @@ ghost use Rattle.tars_model.specs.Fits.{IsInt};
 ghost use Rattle.tars_model.specs.declared.value.Value.{Value as AValue};
 ghost use Rattle.tars_codec.specs.Written.{written};
 ghost use Rattle.session.specs.RpcPackets.{response_frame};
-ghost use Rattle.session.specs.Services.{IsService, AreTwoInts, Asks, argument, added, response_of, response_with};
+ghost use Rattle.session.specs.Replies.{argument, added};
+ghost use Rattle.session.specs.Services.{IsService, AreTwoInts, Asks, response_of, response_with};
 
 use crate::bodies::{read_body, write_body};
 use crate::rpc_packet::{Response, read_request, write_response};

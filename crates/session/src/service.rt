@@ -1,6 +1,7 @@
 ghost use Rattle.std.specs.Prelude.{◌≡◌, ◌≤◌, length, IfOk};
 ghost use Rattle.session.specs.Loading.{IsLoaded};
-ghost use Rattle.session.specs.Services.{IsService, func_of as func_is, node_of as node_is, rule_of as rule_is, service_of};
+ghost use Rattle.session.specs.Services.{IsService, service_of};
+ghost use Rattle.session.specs.Sessions.{func_of as func_is, node_of as node_is, rule_of as rule_is};
 
 use crate::rpc_packet::{request_members, response_members};
 use crate::{Endpoint, Loaded, Rule};

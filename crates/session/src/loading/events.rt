@@ -4,9 +4,10 @@ ghost use Rattle.std.specs.Prelude.{◌≡◌, ◌<◌, ◌≤◌, ◌-◌, ◌^
 ghost use Rattle.session.specs.Reading.{event_of};
 ghost use Rattle.session.specs.Scan.{Gives};
 ghost use Rattle.session.specs.ScriptSteps.{is_call_value};
-ghost use Rattle.session.specs.ScriptText.{MAX_CALLS};
+ghost use Rattle.session.specs.TextLimits.{MAX_CALLS};
 ghost use Rattle.session.specs.SessionSteps.{call_with, event_in, next_number, events_in};
 
+use crate::loaded::NODE;
 use crate::{CallSpec, Event, EventText};
 use std::alloc::{AllocError, Global};
 use tars_model::{List, Value};
@@ -23,6 +24,9 @@ fn call_spec(alloc: Global, number: u32, first: i32, second: i32) -> Result<Call
         call: number,
         line: 1,
         func: 0,
+        two_way: true,
+        begin: false,
+        key: 0,
         args,
     })
 }
@@ -45,9 +49,15 @@ fn event_of(
             second: Some(second),
         } if name == func => Some(Event::Call(call_spec(alloc, number, first, second)?)),
         EventText::Call { .. } => None,
-        EventText::Serve => Some(Event::Serve),
-        EventText::Work => Some(Event::Work),
-        EventText::Deliver => Some(Event::Deliver),
+        EventText::Serve => Some(Event::Serve {
+            node: NODE,
+            bytes: None,
+        }),
+        EventText::Work => Some(Event::Work { node: NODE }),
+        EventText::Deliver => Some(Event::Deliver {
+            node: NODE,
+            bytes: None,
+        }),
         EventText::Close => Some(Event::Close),
     })
 }

@@ -6,8 +6,9 @@ ghost use Rattle.session.specs.Loading.{Agree, loaded_of};
 ghost use Rattle.session.specs.Reading.{names_of, event_of, Reads};
 ghost use Rattle.session.specs.Scan.{Gives};
 ghost use Rattle.session.specs.ScriptSteps.{is_call_value};
-ghost use Rattle.session.specs.ScriptText.{ScriptText as Written, MAX_CALLS};
+ghost use Rattle.session.specs.ScriptText.{ScriptText as Written};
 ghost use Rattle.session.specs.SessionSteps.{place_in, rule_in, object_in, is_about, session_in};
+ghost use Rattle.session.specs.TextLimits.{MAX_CALLS};
 ghost use Rattle.session.specs.Sessions.{int_param, func_of_two, schema_of_one};
 
 use crate::loading::events::events_of;

@@ -4,11 +4,13 @@ ghost use Rattle.std.specs.Prelude.{◌≡◌, ◌<◌, ◌^◌, false, length, 
 ghost use Rattle.session.specs.Courses.{not_sent as is_not_sent, open_under as is_open_under};
 ghost use Rattle.session.specs.RpcPackets.{request_frame};
 ghost use Rattle.session.specs.Services.{IsService, AreTwoInts, request_of};
+ghost use Rattle.session.specs.Sessions.{WIDTH};
 ghost use Rattle.session.specs.Tracks.{Tracks, Follows, course_of};
 ghost use Rattle.session.specs.declared.loaded.Event.TheVariants.{Call};
 
 use super::Plan;
 use crate::bodies::write_body;
+use crate::loaded::NODE;
 use crate::pending::Pending;
 use crate::rpc_packet::{Request, write_request};
 use crate::service::Service;
@@ -21,7 +23,7 @@ const WIDTH: usize = 8;
 
 /// The one node is picked, which is live.
 const PICKED: PickNote = PickNote {
-    node: 1,
+    node: NODE,
     why: Why::Live,
 };
 
@@ -33,6 +35,7 @@ fn not_sent(spec: &CallSpec, pick: Option<PickNote>, why: Refusal) -> Pending
         call: spec.call,
         line: spec.line,
         func: spec.func,
+        two_way: spec.two_way,
         pick,
         id: None,
         end: Some(End::Refused(why)),
@@ -47,6 +50,7 @@ fn open_under(spec: &CallSpec, id: u32) -> Pending
         call: spec.call,
         line: spec.line,
         func: spec.func,
+        two_way: spec.two_way,
         pick: Some(PICKED),
         id: Some(CallId(id)),
         end: None,

@@ -1,6 +1,7 @@
 //! The caller's side of a plan.
 
-ghost use Rattle.std.specs.Prelude.{OnOk};
+ghost use Rattle.std.specs.Prelude.{None, OnOk};
+ghost use Rattle.session.specs.Sessions.{NODE};
 ghost use Rattle.session.specs.declared.loaded.Event.TheVariants.{Deliver, Close};
 ghost use Rattle.session.specs.Tracks.{Tracks, Follows, course_of};
 
@@ -15,7 +16,7 @@ impl Plan<'_> {
     /// The caller reads all that waits, and takes in each answer in it.
     pub fn deliver(&mut self, alloc: Global) -> Result<(), AllocError>
         requires { Tracks self.old (course_of self.old) }
-        ensures { OnOk result (Follows self.old self.new Deliver) }
+        ensures { OnOk result (Follows self.old self.new (Deliver NODE None)) }
     {
         let bytes = mem::replace(&mut self.to_caller, Vec::new(alloc));
         let packets = whole_packets(alloc, bytes.as_slice())?;

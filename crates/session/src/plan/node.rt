@@ -1,6 +1,7 @@
 //! The node's side of a plan.
 
-ghost use Rattle.std.specs.Prelude.{OnOk};
+ghost use Rattle.std.specs.Prelude.{None, OnOk};
+ghost use Rattle.session.specs.Sessions.{NODE};
 ghost use Rattle.session.specs.declared.loaded.Event.TheVariants.{Serve, Work};
 ghost use Rattle.session.specs.Tracks.{Tracks, Follows, course_of};
 
@@ -14,7 +15,7 @@ impl Plan<'_> {
     /// The node reads all that waits, and offers each request in it.
     pub fn serve(&mut self, alloc: Global) -> Result<(), AllocError>
         requires { Tracks self.old (course_of self.old) }
-        ensures { OnOk result (Follows self.old self.new Serve) }
+        ensures { OnOk result (Follows self.old self.new (Serve NODE None)) }
     {
         let bytes = mem::replace(&mut self.to_node, Vec::new(alloc));
         let mut requests = whole_packets(alloc, bytes.as_slice())?;
@@ -25,7 +26,7 @@ impl Plan<'_> {
     /// The node takes the first request, if there is one, and answers it.
     pub fn work(&mut self, alloc: Global) -> Result<(), AllocError>
         requires { Tracks self.old (course_of self.old) }
-        ensures { OnOk result (Follows self.old self.new Work) }
+        ensures { OnOk result (Follows self.old self.new (Work NODE)) }
     {
         let Some(request) = self.queue.pop_front() else {
             return Ok(());

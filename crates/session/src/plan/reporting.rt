@@ -1,18 +1,17 @@
 //! The report that a plan ends in.
 
-ghost use Rattle.std.specs.Prelude.{◌≡◌, ◌++◌, [], map, IfOk};
+ghost use Rattle.std.specs.Prelude.{◌≡◌, ◌++◌, [], None, map, IfOk};
 ghost use Rattle.std.specs.List.{filter_map};
 ghost use Rattle.session.specs.Planned.{row_of as row_is, picked_step as picked_is, reported_step as reported_is, report_of};
+ghost use Rattle.session.specs.Sessions.{NODE};
 ghost use Rattle.session.specs.Tracks.{Tracks, course_of};
 
 use super::Plan;
+use crate::loaded::NODE;
 use crate::pending::Pending;
 use crate::{End, GotRow, LinkLog, Report, RouteStep, Row, SentRow};
 use std::alloc::{AllocError, Global};
 use tars_model::{Bytes8, List};
-
-/// The one node, and the one link to it.
-const NODE: u32 = 1;
 
 /// The row of a call. What is still open ends as closed.
 fn row_of(call: Pending) -> Row
@@ -22,7 +21,7 @@ fn row_of(call: Pending) -> Row
         call: call.call,
         line: call.line,
         func: call.func,
-        two_way: true,
+        two_way: call.two_way,
         pick: call.pick,
         id: call.id,
         end: call.end.unwrap_or(End::Closed),
@@ -89,7 +88,7 @@ fn routes_of(alloc: Global, calls: &[Pending]) -> Result<List<RouteStep>, AllocE
 }
 
 fn link_log(alloc: Global, sent: Vec<SentRow>, got: Vec<GotRow>) -> LinkLog
-    ensures { result ≡ record { node = NODE; sent = sent.items; torn = []; got = got.items; rest = [] } }
+    ensures { result ≡ record { node = NODE; sent = sent.items; torn = []; got = got.items; rest = []; cut = None } }
 {
     LinkLog {
         node: NODE,
@@ -97,6 +96,7 @@ fn link_log(alloc: Global, sent: Vec<SentRow>, got: Vec<GotRow>) -> LinkLog
         torn: Bytes8::from_vec(Vec::new(alloc)),
         got: List::from_vec(got),
         rest: Bytes8::from_vec(Vec::new(alloc)),
+        cut: None,
     }
 }
 

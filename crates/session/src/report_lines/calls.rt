@@ -1,6 +1,6 @@
 ghost use Rattle.std.specs.Prelude.{◌≡◌, ◌++◌, not, OnOk, IfOk, count_by};
 ghost use Rattle.std.specs.List.{flat_map};
-ghost use Rattle.session.specs.Services.{func_of};
+ghost use Rattle.session.specs.Sessions.{func_of};
 ghost use Rattle.session.specs.ReportText.{pick_text, id_text, call_line, done_line};
 
 use super::lines::Lines;

@@ -1,7 +1,7 @@
 ghost use Rattle.std.specs.Prelude.{◌≡◌, ◌++◌, OnOk, IfOk};
 ghost use Rattle.std.specs.String.{string_bytes};
 ghost use Rattle.std.specs.List.{flat_map};
-ghost use Rattle.session.specs.ReportText.{call_with, sent_line, fate_text, got_line, numbered_lines, link_lines};
+ghost use Rattle.session.specs.ReportText.{call_with, sent_line, fate_text, got_line, numbered_lines, sent_lines, got_lines};
 
 use super::lines::Lines;
 use crate::{CallId, GotFate, GotRow, LinkLog, Row, SentRow};
@@ -20,12 +20,21 @@ fn call_of(rows: &[Row], id: CallId) -> u32
 }
 
 impl Lines {
-    /// Adds the lines of each node.
-    pub fn put_links(&mut self, rows: &[Row], links: &[LinkLog]) -> Result<(), AllocError>
-        ensures { OnOk result (self.new ≡ self.old ++ flat_map (link_lines rows.now) links.now) }
+    /// Adds what was sent to each node.
+    pub fn put_sent(&mut self, links: &[LinkLog]) -> Result<(), AllocError>
+        ensures { OnOk result (self.new ≡ self.old ++ flat_map sent_lines links.now) }
     {
         for link in links {
             self.put_sent_rows(link.node, link.sent.as_slice())?;
+        }
+        Ok(())
+    }
+
+    /// Adds what was got from each node.
+    pub fn put_got(&mut self, rows: &[Row], links: &[LinkLog]) -> Result<(), AllocError>
+        ensures { OnOk result (self.new ≡ self.old ++ flat_map (got_lines rows.now) links.now) }
+    {
+        for link in links {
             self.put_got_rows(rows, link.node, link.got.as_slice())?;
         }
         Ok(())

@@ -2,7 +2,7 @@ ghost use Rattle.std.specs.Prelude.{◌≡◌, ◌+◌, ◌<◌, ◌^◌, length
 ghost use Rattle.tars_model.specs.declared.value.Value.{Value as AValue, Map as AMap};
 ghost use Rattle.tars_model.specs.Fits.{FitMembers, HaveRisingTags};
 ghost use Rattle.tars_codec.specs.Written.{written};
-ghost use Rattle.wire_words.specs.Packets.{framed};
+ghost use Rattle.wire_words.specs.Packets.{LENGTH_BYTES, framed};
 
 use crate::bodies::{read_body, write_body};
 use bytes::{BufMut, BytesMut};
@@ -17,7 +17,7 @@ const LENGTH_BYTES: usize = 4;
 pub fn frame(alloc: Global, members: &[Member], values: &[Value]) -> Result<Bytes8, AllocError>
     requires rising { HaveRisingTags members.now }
     requires fits { FitMembers members.now values.now }
-    requires short { length (written members.now values.now) + 4 < 2 ^ 32 }
+    requires short { length (written members.now values.now) + LENGTH_BYTES < 2 ^ 32 }
     ensures { IfOk result (λ bytes. bytes ≡ framed (written members.now values.now)) }
 {
     let body = write_body(alloc, members, values)?;

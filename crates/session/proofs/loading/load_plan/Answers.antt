@@ -14,7 +14,7 @@ returns-in_default-clause-exact g c =
     let told = g.F.Files.contents c.args.files.now in
     let front : IsFrontOfFile told c.args.name.now MOST c.deref.result.now = rw c.deref.ensures.value c.in_ok-text.ensures.bytes in
     let none : (s : ScriptText) → ¬ IsScriptText s c.deref.result.now = λ s form. let some = c.in_ok-script.ensures.only s form in search rules in
-    refused_exact told _ _ c.refused.result (bad_script_told told c.args.name.now c.deref.result.now front none) c.refused.ensures
+    refused_exact told _ _ c.refused_script.result (bad_script_told told c.args.name.now c.deref.result.now front none) c.refused_script.ensures
 
 pub returns-in-Some-2-clause-exact : goal.returns-in-Some-2-clause-exact
 returns-in-Some-2-clause-exact g c =
@@ -34,7 +34,7 @@ returns-clause-exact g c =
     record { found = rw c.in-Some.is at c.in_ok-script.ensures.found; only = rw c.in-Some.is at c.in_ok-script.ensures.only } in
     let behind : IsFrontOfFile told c.in-Some.script.client.now MOST c.deref-2.result.now =
     rw (c.deref-2.ensures.value, ← c.read.ensures.same) c.in_ok-file.ensures.bytes in
-    refused_exact told _ _ c.refused-in-None.result (bad_value_told told _ _ _ _ _ front read behind c.in-Ok.ensures (λ s reads. rw c.in-None.is at c.in_ok-loaded.ensures s reads)) c.refused-in-None.ensures
+    refused_exact told _ _ c.refused_script-in-None.result (bad_value_told told _ _ _ _ _ front read behind c.in-Ok.ensures (λ s reads. rw c.in-None.is at c.in_ok-loaded.ensures s reads)) c.refused_script-in-None.ensures
 
 pub returns-in-Err-clause-exact : goal.returns-in-Err-clause-exact
 returns-in-Err-clause-exact g c =

@@ -2,7 +2,7 @@ use Rattle.std.proofs.Common.{◌≡◌, ◌≤◌, ◌+◌, ◌++◌, drop, map
 use Rattle.std.specs.Option.{option_map}
 use Rattle.session.specs.Reading.{event_of}
 use Rattle.session.specs.ScriptSteps.{is_call_value}
-use Rattle.session.specs.ScriptText.{MAX_CALLS}
+use Rattle.session.specs.TextLimits.{MAX_CALLS}
 use Rattle.session.specs.SessionSteps.{events_in}
 use Rattle.session.proofs.loading.events.events_of.Given as goal
 

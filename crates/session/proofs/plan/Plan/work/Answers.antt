@@ -3,19 +3,20 @@ use Rattle.std.proofs.lemmas.Bool.{lt-ltb, le-ltb}
 use Rattle.session.specs.declared.loaded.Event.TheVariants.{Work}
 use Rattle.session.specs.declared.plan.Plan.{Plan}
 use Rattle.session.specs.Courses.{Course, opened, sent_frame, answer_frame, joined, step}
+use Rattle.session.specs.Sessions.{NODE}
 use Rattle.session.specs.Tracks.{Tracks, IsOpened, course_of}
 use Rattle.session.proofs.PlanLemmas.{IsNext, next_of, all_answered, one_more_waits}
 use Rattle.session.proofs.TrackLemmas.{offered_len}
 use Rattle.session.proofs.plan.Plan.work.Goals as goal
 
 -- where nothing is queued, nothing happens
-idle : (p : Plan) (c : Course) → Tracks p c → p.queue.items ≡ [] → step p.service c Work ≡ c
+idle : (p : Plan) (c : Course) → Tracks p c → p.queue.items ≡ [] → step p.service c (Work NODE) ≡ c
 idle p c t e =
     let none = all_answered (sent_frame p.service) (opened c) c.answered t.requests t.requests_within (sym t.queue_is ∙ e) in
     rw (offered_len p c t, le-ltb c.answered t.requests none) refl
 
 -- where a request is queued, it is answered
-busy : (p : Plan) (c : Course) (t : Tracks p c) → c.answered < t.requests → step p.service c Work ≡ record c { answered = c.answered + 1 }
+busy : (p : Plan) (c : Course) (t : Tracks p c) → c.answered < t.requests → step p.service c (Work NODE) ≡ record c { answered = c.answered + 1 }
 busy p c t h = rw (offered_len p c t, lt-ltb c.answered t.requests h) refl
 
 fixed_by_drop : (xs : List (List ℕ)) → xs ≡ drop 1 xs → xs ≡ []

@@ -1,0 +1,40 @@
+-- Why a text is refused, and the line that says so (docs/SCRIPTS.md, "Refusals").
+use Rattle.std.specs.Prelude.{ℕ, List, ◌++◌, codes}
+use Rattle.std.specs.Fmt.{decimal}
+use Rattle.idl_parse.specs.LexWhy.{number_of}
+use Rattle.idl_parse.specs.ParseWhy.{number_of as parse_number_of}
+use Rattle.session.specs.declared.interface_fault.FileFault.{FileFault}
+use Rattle.session.specs.declared.interface_fault.FileFault.TheVariants as file
+use Rattle.session.specs.declared.refused_text.ScriptFault.{ScriptFault}
+use Rattle.session.specs.declared.refused_text.ScriptFault.TheVariants as script
+use Rattle.session.specs.declared.refused_text.Stage.{Stage}
+use Rattle.session.specs.declared.refused_text.Stage.TheVariants.{Lex, Parse, Check, Script}
+use Rattle.session.specs.declared.refused_text.TextFault.{TextFault}
+
+-- how a stage is written
+abbrev pub stage_text : Stage → List ℕ
+stage_text Lex = codes "lex"
+stage_text Parse = codes "parse"
+stage_text Check = codes "check"
+stage_text Script = codes "script"
+
+-- `refused FILE STAGE NUMBER PLACE`
+abbrev pub refusal_line : List ℕ → TextFault → List ℕ
+refusal_line name fault =
+    codes "refused " ++ name ++ codes " " ++ stage_text fault.stage ++ codes " " ++ decimal fault.number ++ codes " "
+    ++ decimal fault.place ++ codes "\n"
+
+-- what is wrong with a script, and with an interface file
+
+abbrev pub fault_at : Stage → ℕ → ℕ → TextFault
+fault_at stage number place = record { stage = stage; number = number; place = place }
+
+abbrev pub script_fault : ScriptFault → TextFault
+script_fault script.Form = fault_at Script 1 0
+script_fault script.Value = fault_at Script 7 0
+
+abbrev pub file_fault : FileFault → TextFault
+file_fault file.TooLong = fault_at Parse 5 0
+file_fault (file.Lex at why) = fault_at Lex (number_of why) at
+file_fault (file.Parse at why) = fault_at Parse (parse_number_of why) at
+file_fault file.Shape = fault_at Check 11 0

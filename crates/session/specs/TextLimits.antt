@@ -1,0 +1,26 @@
+-- How long the files, lines, names and numbers of a script may be (docs/SCRIPTS.md, "Accepted scripts").
+use Rattle.std.specs.Prelude.{ℕ}
+
+-- the bytes of a file, a script or an interface file
+abbrev pub MAX_FILE : ℕ
+MAX_FILE = 1048576
+
+-- the bytes of a line, without its line feed
+abbrev pub MAX_LINE : ℕ
+MAX_LINE = 4096
+
+-- the calls of a script
+abbrev pub MAX_CALLS : ℕ
+MAX_CALLS = 4096
+
+-- the letters of a name
+abbrev pub MAX_NAME : ℕ
+MAX_NAME = 32
+
+-- the number of a port
+abbrev pub MAX_PORT : ℕ
+MAX_PORT = 65535
+
+-- how long a call may take, in milliseconds: an hour
+abbrev pub MAX_TIMEOUT : ℕ
+MAX_TIMEOUT = 3600000
