@@ -62,10 +62,12 @@ verdict_of {State} {Letter} {Why} step may_end short Fits L reads state (letter 
 pub one_place : {Letter : Type 0} (L : List Letter → Type 0) (word : List Letter) (place other : ℕ) → FaultAt L word place → FaultAt L word other → place ≡ other
 one_place L word place other f g =
     elim (leb_tells (suc place) other) [
-      inl lt ↦ absurd (f.longest other lt.1 g.within g.front)
-    | inr le ↦ elim (leb_tells (suc other) place) [
-        inl lt ↦ absurd (g.longest place lt.1 f.within f.front)
-      | inr ge ↦ omega arith ] ]
+      | inl lt ↦ absurd (f.longest other lt.1 g.within g.front)
+      | inr le ↦ elim (leb_tells (suc other) place) [
+        | inl lt ↦ absurd (g.longest place lt.1 f.within f.front)
+        | inr ge ↦ omega arith
+      ]
+    ]
 
 -- a word of the language is taken
 pub taken_from_word : {Letter Why : Type 0} (L : List Letter → Type 0) (word : List Letter) (course : Course Why) → Verdict L word course → L word → course ≡ taken

@@ -111,7 +111,7 @@ impl<'a> Cursor<'a> {
         bytes
     }
 
-    /// Goes into the next field, a list, a map or a struct, and answers how many elements or pairs it has;
+    /// Goes into the next field, a list, a map or a struct, and returns how many elements or pairs it has;
     /// 0 for a struct.
     pub fn enter(&mut self) -> u32
         requires { NextIs self.old opens }

@@ -7,7 +7,7 @@ use crate::wire_type::WireType;
 pub const LONG_FORM: u8 = 15;
 
 /// The highest tag.
-pub const LAST_TAG: u8 = u8::MAX;
+pub const MAX_FIELD_TAG: u8 = u8::MAX;
 
 /// How a field begins: its tag, and how its contents are spelled.
 #[derive(Clone, Copy, Debug, PartialEq, Eq)]

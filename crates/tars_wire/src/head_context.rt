@@ -2,7 +2,7 @@ ghost use Rattle.std.specs.Prelude.{◌≡◌, ◌<◌, true};
 ghost use Rattle.tars_wire.specs.Spelled.{ALL};
 ghost use Rattle.tars_wire.specs.MachineSteps.{order_fault, wrong_tag, takes, tag_fault, is_full, is_deep, short_fault, long_fault, judged_byte, first_byte};
 
-use crate::head::{FirstByte, Head, LAST_TAG, LONG_FORM, halves};
+use crate::head::{FirstByte, Head, LONG_FORM, MAX_FIELD_TAG, halves};
 use crate::wire_fault::WireWhy;
 use crate::wire_type::WireType;
 
@@ -28,7 +28,7 @@ pub enum HeadContext {
 fn order_fault(from: u16, tag: u8) -> Option<WireWhy>
     ensures { result ≡ order_fault true from tag }
 {
-    if from <= u16::from(tag) || tag == LAST_TAG {
+    if from <= u16::from(tag) || tag == MAX_FIELD_TAG {
         None
     } else {
         Some(WireWhy::Order)
@@ -86,8 +86,8 @@ impl HeadContext {
         ensures { result ≡ is_full ALL self kind }
     {
         match self {
-            HeadContext::Body { from } => from > u16::from(LAST_TAG),
-            HeadContext::Struct { from, .. } => !kind.is_end() && from > u16::from(LAST_TAG),
+            HeadContext::Body { from } => from > u16::from(MAX_FIELD_TAG),
+            HeadContext::Struct { from, .. } => !kind.is_end() && from > u16::from(MAX_FIELD_TAG),
             _ => false,
         }
     }

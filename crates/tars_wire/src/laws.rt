@@ -8,7 +8,7 @@ ghost use Rattle.wire_words.specs.Tree.{WireValue, WireFields};
 ghost use Rattle.tars_wire.specs.Spelled.{IsBody, Spelled, SpelledField};
 ghost use Rattle.tars_wire.specs.Left.{Standing, Remaining, IsLeft};
 
-use crate::head::{LAST_TAG, LONG_FORM};
+use crate::head::{LONG_FORM, MAX_FIELD_TAG};
 use crate::head_context::MAX_OPEN;
 use crate::wire_fault::WireWhy;
 
@@ -16,7 +16,7 @@ use crate::wire_fault::WireWhy;
 pub fn limits()
     ensures depth { (MAX_OPEN ≡ 64) × (MAX_DEPTH ≡ 64) }
     ensures long_form { (LONG_FORM ≡ 15) × (LONG_HEAD ≡ 15) }
-    ensures last_tag { (LAST_TAG ≡ 255) × (MAX_TAG ≡ 255) }
+    ensures last_tag { (MAX_FIELD_TAG ≡ 255) × (MAX_TAG ≡ 255) }
 {}
 
 /// Bytes spell one list of fields at most.

@@ -1,4 +1,4 @@
-//! Past what stands on the wire, piece by piece: each function answers the bytes behind the piece, or
+//! Past what stands on the wire, piece by piece: each function returns the bytes after the piece, or
 //! where it stopped.
 
 mod body;

@@ -1,4 +1,4 @@
-//! Pieces that are known to stand at the front of bytes: nothing is judged again.
+//! Pieces that are known to stand at the start of bytes: nothing is judged again.
 
 ghost use Rattle.std.specs.Prelude.{◌≡◌, ◌<◌, ◌^◌, IsTrue, IsSome, IsOk, length};
 ghost use Rattle.tars_wire.specs.Heads.{opens};
@@ -86,7 +86,7 @@ pub fn known_simple(bytes: &[u8]) -> (&[u8], &[u8])
     known_bytes(size as usize, rest)
 }
 
-/// What is open behind the head of a list, a map or a struct, and how many values or pairs it has.
+/// What is open after the head of a list, a map or a struct, and how many values or pairs it has.
 #[tactic(auto, unfolding(crate::specs::PrefixSteps::entered_front))]
 pub fn enter_level(kind: WireType, bytes: &[u8]) -> (Level, u32, &[u8])
     requires { IsSome (entered_front kind bytes.now) }
@@ -102,7 +102,7 @@ pub fn enter_level(kind: WireType, bytes: &[u8]) -> (Level, u32, &[u8])
     (Level::List { left: size }, size, rest)
 }
 
-/// Past what stands behind a head of this type.
+/// Past what stands after a head of this type.
 pub fn past_value(room: u8, kind: WireType, bytes: &[u8]) -> &[u8]
     requires deep { IsTrue (opens kind) → 0 < room }
     requires is { IsOk (contents_at room kind bytes.now) }

@@ -38,7 +38,7 @@ fn past_simple_list(bytes: &[u8]) -> Result<&[u8], Stop>
     past(size, rest)
 }
 
-/// Past what stands behind a head of this type. `room` is how many lists, maps and structs may be opened
+/// Past what stands after a head of this type. `room` is how many lists, maps and structs may be opened
 /// inside one another.
 #[cycle(contents)]
 #[tactic(auto, unfolding(crate::specs::ScanSteps::contents_at, crate::specs::ScanSteps::sized_at))]
