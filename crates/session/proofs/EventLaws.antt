@@ -7,7 +7,7 @@ use Rattle.std.proofs.lemmas.Slice.Eq.{bytes_eq-Decides}
 use Rattle.session.specs.Words.{is_letter, IsName, is_number}
 use Rattle.session.specs.Reading.{int_of, EventValue, event_meant}
 use Rattle.session.specs.Reading as value
-use Rattle.wire_words.specs.Bind.{◌>>=◌}
+use Rattle.facts.specs.OptionSteps.{◌>>=◌}
 use Rattle.session.specs.ScriptText.{EventText, event_line, IsEvent}
 use Rattle.session.specs.TextLimits.{MAX_LINE}
 use Rattle.session.specs.ScriptText as script

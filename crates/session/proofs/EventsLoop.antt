@@ -2,7 +2,7 @@
 use Rattle.std.proofs.Common.{◌≡◌, ℕ, ◌<◌, List, [], ◌∷◌, ◌++◌, length, Option, Some, None, refl, sym, ap, subst, ◌∙◌, append_assoc, arith}
 use Rattle.std.proofs.lemmas.List.{append-nil}
 use Rattle.session.specs.Reading.{EventValue}
-use Rattle.wire_words.specs.Bind.{◌>>=◌}
+use Rattle.facts.specs.OptionSteps.{◌>>=◌}
 use Rattle.session.specs.ScriptSteps.{lines_of, short, event_on, event_at, events_on}
 use Rattle.session.proofs.Readers.{bind_some, bind_is, some_is}
 use Rattle.session.proofs.Lines.{first_line, behind_line, lines_of_first}

@@ -1,7 +1,7 @@
 -- Readers of whole lines.
 use Rattle.std.proofs.Common.{◌≡◌, ℕ, ◌<◌, ◌≤◌, true, leb, ltb, List, [], ◌∷◌, ◌++◌, length, Some, None, refl, sym, ap, subst, ◌∙◌, append_assoc, arith, inl, inr}
 use Rattle.std.proofs.lemmas.Bool.{cases_Bool, lt-ltb, leb-true, le-leb, cond-true}
-use Rattle.wire_words.specs.Bind.{◌>>=◌}
+use Rattle.facts.specs.OptionSteps.{◌>>=◌}
 use Rattle.session.specs.Scan.{Whole, Front, ◌&◌}
 use Rattle.session.specs.TextLimits.{MAX_LINE}
 use Rattle.session.specs.ScriptSteps.{line_at, on_line, lines_of, short}

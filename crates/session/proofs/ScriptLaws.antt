@@ -10,7 +10,7 @@ use Rattle.session.specs.ScriptText.{EventText, ObjectText, ScriptText, object_i
 use Rattle.session.specs.TextLimits.{MAX_LINE, MAX_CALLS}
 use Rattle.session.specs.ScriptText as script
 use Rattle.session.specs.Reading.{EventValue, event_meant, Reads}
-use Rattle.wire_words.specs.Bind.{◌>>=◌}
+use Rattle.facts.specs.OptionSteps.{◌>>=◌}
 use Rattle.session.specs.Scan.{Gives}
 use Rattle.session.specs.ScriptSteps.{lines_of, events_on, is_call_value, HeaderValue, header_at, script_of, script_at}
 use Rattle.session.proofs.Readers.{chosen, bind_some, bind_is, some_is}

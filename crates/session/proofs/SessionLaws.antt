@@ -21,7 +21,7 @@ use Rattle.tars_model.specs.Fits.{IsInt, is_int}
 use Rattle.tars_model.proofs.Ints.{int_test, int_passes}
 use Rattle.session.specs.Reading.{EventValue, event_of, event_meant, Reads}
 use Rattle.session.specs.Reading as value
-use Rattle.wire_words.specs.Bind.{◌>>=◌}
+use Rattle.facts.specs.OptionSteps.{◌>>=◌}
 use Rattle.session.specs.Scan.{Gives}
 use Rattle.session.specs.ScriptText.{ScriptText, EventText, call, serve, work, deliver, close}
 use Rattle.session.specs.SessionSteps.{place_in, rule_in, call_with, event_in, next_number, events_in, object_in, is_about, session_in}

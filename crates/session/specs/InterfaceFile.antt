@@ -1,7 +1,7 @@
 -- What an interface file is to a script (docs/IDL.md, "What is accepted").
 use Rattle.std.specs.Prelude.{◌≡◌, ◌<◌, ◌≤◌, ℕ, Bool, true, false, ◌&&◌, not, is_none, nat_le, if◌then◌else◌, Option, Some, None, List, [], ◌∷◌, length, slice_range}
 use Rattle.std.specs.Str.{bytes_eq}
-use Rattle.wire_words.specs.Bind.{◌>>=◌}
+use Rattle.facts.specs.OptionSteps.{◌>>=◌}
 use Rattle.idl_parse.specs.declared.token.Token.{Token}
 use Rattle.idl_parse.specs.declared.span.Span.{Span}
 use Rattle.idl_parse.specs.declared.lex_fault.LexWhy.{LexWhy}

@@ -3,7 +3,7 @@ use Rattle.std.specs.Prelude.{◌^◌, ℕ, ◌&&◌, nat_le, nat_lt, if◌then�
 use Rattle.std.specs.Str.Parse.{digits_value}
 use Rattle.session.specs.Words.{is_natural, is_number}
 use Rattle.session.specs.Reading.{int_of}
-use Rattle.wire_words.specs.Bind.{◌>>=◌}
+use Rattle.facts.specs.OptionSteps.{◌>>=◌}
 use Rattle.session.specs.Scan.{Whole}
 
 -- a natural number below 2 ^ 32

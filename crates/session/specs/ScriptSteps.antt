@@ -11,7 +11,7 @@ use Rattle.session.specs.Numbers.{natural_within, number}
 use Rattle.session.specs.Reading.{EventValue, event_of, call, serve, work, deliver, close}
 use Rattle.session.specs.TextLimits.{MAX_FILE, MAX_LINE, MAX_CALLS, MAX_PORT, MAX_TIMEOUT}
 use Rattle.session.specs.ScriptText.{is_part_byte, is_host_byte}
-use Rattle.wire_words.specs.Bind.{◌>>=◌}
+use Rattle.facts.specs.OptionSteps.{◌>>=◌}
 use Rattle.session.specs.Scan.{Whole, Front, tested, skip, before, within, ◌&◌, ◌&>◌, name, name_before, utf8}
 
 -- the line in front, without its line feed; the last one may have none

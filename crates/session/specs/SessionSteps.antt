@@ -13,7 +13,7 @@ use Rattle.session.specs.declared.script.ScriptText.{ScriptText}
 use Rattle.session.specs.declared.script.object.ObjectText.{ObjectText}
 use Rattle.session.specs.InterfaceFile.{InterfaceText}
 use Rattle.session.specs.Reading.{EventValue, event_of, call, serve, work, deliver, close}
-use Rattle.wire_words.specs.Bind.{◌>>=◌}
+use Rattle.facts.specs.OptionSteps.{◌>>=◌}
 use Rattle.session.specs.Loading.{two_way_call}
 use Rattle.session.specs.Sessions.{NODE, func_of_two, schema_of_one}
 

@@ -9,7 +9,7 @@ use Rattle.wire_words.specs.Spelling.{head, two_complement, shortest, spelled_nu
 use Rattle.tars_codec.specs.declared.wire_type.WireType.{WireType}
 use Rattle.tars_codec.specs.declared.wire_type.WireType.TheVariants.{Int1, Int2, Int4, Int8, ZeroTag}
 use Rattle.tars_codec.specs.WireType.{code_of}
-use Rattle.wire_words.specs.Bind.{◌>>=◌}
+use Rattle.facts.specs.OptionSteps.{◌>>=◌}
 use Rattle.tars_codec.specs.Reading.{signed_at, field_at, number_at, size_at}
 use Rattle.tars_codec.proofs.Heads.{field_again}
 use Rattle.tars_codec.proofs.Numbers.{IsWide, wide8, wide16, wide32, wide64, signed_again}

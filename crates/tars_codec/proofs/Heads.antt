@@ -7,7 +7,7 @@ use Rattle.tars_codec.specs.declared.head.Head.{Head}
 use Rattle.tars_codec.specs.declared.wire_type.WireType.{WireType}
 use Rattle.tars_codec.specs.declared.wire_type.WireType.TheVariants.{Int1, Int2, Int4, Int8, String1, String4, Map, ZeroTag, SimpleList}
 use Rattle.tars_codec.specs.WireType.{code_of, type_of}
-use Rattle.wire_words.specs.Bind.{◌>>=◌}
+use Rattle.facts.specs.OptionSteps.{◌>>=◌}
 use Rattle.tars_codec.specs.Reading.{long_head_at, head_at, field_at}
 
 pub code_below : (t : WireType) → code_of t < 16

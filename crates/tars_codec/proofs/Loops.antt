@@ -6,7 +6,7 @@ use Rattle.tars_model.specs.declared.value.Value.{Value}
 use Rattle.tars_model.specs.declared.value.Pair.{Pair}
 use Rattle.tars_codec.specs.declared.read_error.ReadError.{ReadError}
 use Rattle.tars_codec.specs.declared.read_error.ReadError.TheVariants as errors
-use Rattle.wire_words.specs.Bind.{◌>>=◌}
+use Rattle.facts.specs.OptionSteps.{◌>>=◌}
 use Rattle.tars_codec.specs.Reading.{Fails, pair_at, pairs_at, member_at, values_at}
 
 -- a list and the bytes behind it, if they are read

@@ -18,7 +18,7 @@ use Rattle.tars_codec.specs.declared.read_error.ReadError.{ReadError}
 use Rattle.tars_codec.specs.declared.read_error.ReadError.TheVariants.{Malformed}
 use Rattle.tars_codec.specs.declared.wire_type.WireType.{WireType}
 use Rattle.tars_codec.specs.Written.{wire_value, wire_entry, wire_text, wire_pairs, fields_of, written}
-use Rattle.wire_words.specs.Bind.{◌>>=◌}
+use Rattle.facts.specs.OptionSteps.{◌>>=◌}
 use Rattle.tars_codec.specs.Reading.{Fails, as_value, number_at, text_at, blob_at, map_at, value_at, member_at, values_at, body_at}
 use Rattle.tars_codec.proofs.Fields.{Stands, field_stands, number_stands}
 use Rattle.tars_codec.proofs.Contents.{text_stands, blob_stands}

@@ -2,6 +2,7 @@
 -- the bytes after it, or where it stopped.
 use Rattle.std.specs.Prelude.{◌≡◌, ℕ, ◌-◌, nat_lt, if◌then◌else◌, List, [], ◌∷◌, length, Option, Some, None, Result, Ok, Err}
 use Rattle.std.specs.Int.{Width, w8, w16, w32}
+use Rattle.facts.specs.ResultSteps.{◌>>=◌}
 use Rattle.tars_wire.specs.declared.wire_type.WireType.{WireType}
 use Rattle.tars_wire.specs.declared.wire_type.WireType.TheVariants as wire
 use Rattle.tars_wire.specs.declared.wire_fault.WireWhy.{WireWhy}
@@ -15,11 +16,6 @@ use Rattle.tars_wire.specs.declared.head.FirstByte.TheVariants as first
 use Rattle.tars_wire.specs.Spelled.{ALL}
 use Rattle.tars_wire.specs.PrefixSteps.{bytes_front, unsigned_front}
 use Rattle.tars_wire.specs.MachineSteps.{tag_fault, first_byte, Kind, of_values, of_pairs, in_struct, head_of, counted, Inside, parts, tag_of, part_step, tag_step, State, within, step, may_end}
-
-infixl 10 ◌>>=◌
-abbrev pub ◌>>=◌ : {A B : Type 0} → Result A Stop → (A → Result B Stop) → Result B Stop
-(Ok x) >>= f = f x
-(Err stop) >>= f = Err stop
 
 -- a function returned, seen by view, what reading gives
 abbrev pub Gives : {X Y : Type 0} → (X → Y) → Result X Stop → Result Y Stop → Type 0

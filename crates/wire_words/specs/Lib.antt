@@ -1,4 +1,3 @@
-pub mod Bind
 pub mod Tree
 pub mod Spelling
 pub mod Packets

@@ -4,7 +4,8 @@ use Rattle.tars_wire.specs.declared.stop.Stop.{Stop}
 use Rattle.tars_wire.specs.declared.head_context.HeadContext.TheVariants as heads
 use Rattle.tars_wire.specs.declared.head.Head.{Head}
 use Rattle.tars_wire.specs.Heads.{MAX_DEPTH, is_end}
-use Rattle.tars_wire.specs.ScanSteps.{◌>>=◌, head_at, contents_at, fields_at, body_at}
+use Rattle.facts.specs.ResultSteps.{◌>>=◌}
+use Rattle.tars_wire.specs.ScanSteps.{head_at, contents_at, fields_at, body_at}
 use Rattle.tars_wire.proofs.Scanning.Readings.{one_field_more}
 use Rattle.tars_wire.proofs.Scanning.Verdicts.{body_ends, one_body_field}
 

@@ -14,20 +14,10 @@ use Rattle.tars_wire.specs.Heads.{is_end}
 use Rattle.tars_wire.specs.Spelled.{ALL}
 use Rattle.tars_wire.specs.MachineSteps.{tag_fault, unless, first_byte, Kind, of_bytes, of_values, of_pairs, Context, in_struct, an_element, a_key, its_value, a_size, simple_head, head_context, Part, raw, size_first, size_later, head_of, counted, contents, size_bytes, after, Inside, parts, tag_of, head_step, part_step, tag_step}
 use Rattle.tars_wire.specs.PrefixSteps.{bytes_front, unsigned_front}
-use Rattle.tars_wire.specs.ScanSteps.{or_short, ◌>>=◌, too_short, stops_at, judged_tag, tag_at, headed, head_at, past, unsigned_at, not_negative, size_number, size_at, reading, counted_at, fields_at, text_at, simple_list_at, sized_at, contents_at, item_at, pair_at}
+use Rattle.facts.specs.ResultSteps.{◌>>=◌}
+use Rattle.facts.proofs.ResultLaws.{bind_assoc, bind_same}
+use Rattle.tars_wire.specs.ScanSteps.{or_short, too_short, stops_at, judged_tag, tag_at, headed, head_at, past, unsigned_at, not_negative, size_number, size_at, reading, counted_at, fields_at, text_at, simple_list_at, sized_at, contents_at, item_at, pair_at}
 use Rattle.tars_wire.proofs.TestLemmas.{ltb_suc}
-
-pub bind_assoc : {A B C : Type 0} (r : Result A Stop) (f : A → Result B Stop) (g : B → Result C Stop) → (r >>= f) >>= g ≡ r >>= (λ x. f x >>= g)
-bind_assoc (Ok x) f g = refl
-bind_assoc (Err stop) f g = refl
-
-pub bind_ok : {A : Type 0} (r : Result A Stop) → r >>= (λ x. Ok x) ≡ r
-bind_ok (Ok x) = refl
-bind_ok (Err stop) = refl
-
-pub bind_same : {A B : Type 0} (r : Result A Stop) (f g : A → Result B Stop) → ((x : A) → f x ≡ g x) → r >>= f ≡ r >>= g
-bind_same (Ok x) f g same = same x
-bind_same (Err stop) f g same = refl
 
 -- the first byte of a head, then its tag
 head_goes : (context : Context) (below : List Part) (byte : ℕ) (rest : List ℕ) (r : Result FirstByte WireWhy)

@@ -14,7 +14,8 @@ use Rattle.tars_wire.specs.Spelled.{ALL}
 use Rattle.tars_wire.specs.MachineSteps.{takes, tag_fault, is_deep, unless, short_fault, long_fault, judged_byte, typed_byte, first_byte, Inside, parts, tag_of, part_step, tag_step, contents}
 use Rattle.tars_wire.specs.ScanSteps.{stops_at, judged_tag, tag_at, headed, head_at, reading, contents_at}
 use Rattle.tars_wire.proofs.Machine.FirstBytes.{short_fits, long_fits}
-use Rattle.tars_wire.proofs.Scanning.Readings.{bind_ok, reading_contents}
+use Rattle.facts.proofs.ResultLaws.{bind_ok}
+use Rattle.tars_wire.proofs.Scanning.Readings.{reading_contents}
 use Rattle.tars_wire.proofs.TestLemmas.{room_for}
 
 -- no list, map or struct too deep is let in

@@ -11,10 +11,12 @@ use Rattle.tars_wire.specs.declared.head.FirstByte.TheVariants as first
 use Rattle.tars_wire.specs.Heads.{MAX_DEPTH}
 use Rattle.tars_wire.specs.Spelled.{IsBody, ALL}
 use Rattle.tars_wire.specs.MachineSteps.{tag_fault, unless, first_byte, contents, Inside, parts, tag_of, part_step, tag_step, State, within, lift_step, body_step, step, may_end, START}
-use Rattle.tars_wire.specs.ScanSteps.{◌>>=◌, too_short, stops_at, judged_tag, tag_at, headed, head_at, reading, contents_at, judging, body_at}
+use Rattle.facts.specs.ResultSteps.{◌>>=◌}
+use Rattle.tars_wire.specs.ScanSteps.{too_short, stops_at, judged_tag, tag_at, headed, head_at, reading, contents_at, judging, body_at}
 use Rattle.tars_wire.proofs.Machine.Steps.{IsByte}
 use Rattle.tars_wire.proofs.Machine.Faults.{OneFault, end_is_body, stop_is_fault}
-use Rattle.tars_wire.proofs.Scanning.Readings.{bind_ok, bind_same, reading_contents}
+use Rattle.facts.proofs.ResultLaws.{bind_ok, bind_same}
+use Rattle.tars_wire.proofs.Scanning.Readings.{reading_contents}
 use Rattle.tars_wire.proofs.Scanning.Remainders.{Facts}
 
 -- how a course ends, by what is left

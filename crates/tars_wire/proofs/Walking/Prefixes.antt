@@ -11,14 +11,16 @@ use Rattle.tars_wire.specs.Spelled.{Bytes, no_bytes, byte, signed, Number, is_ze
 use Rattle.tars_wire.specs.MachineSteps.{contents, Inside, parts, tag_of, part_step, tag_step, tag_fault, head_context, after}
 use Rattle.tars_wire.specs.ScanSteps.{stops_at, reading, contents_at}
 use Rattle.tars_wire.specs.Left.{value_of_number, text_in, simple_in}
-use Rattle.tars_wire.specs.PrefixSteps.{◌>>=◌, typed_front, head_front, bytes_front, unsigned_front, signed_front, number_front, size_front, text_front, simple_front}
+use Rattle.facts.specs.OptionSteps.{◌>>=◌}
+use Rattle.tars_wire.specs.PrefixSteps.{typed_front, head_front, bytes_front, unsigned_front, signed_front, number_front, size_front, text_front, simple_front}
 use Rattle.longest_front.specs.Machine.{Goes}
 use Rattle.tars_wire.proofs.Grammar.Heads.{type_of-code_of, code_below}
 use Rattle.tars_wire.proofs.Machine.Meaning.{Insides}
 use Rattle.tars_wire.proofs.Machine.Steps.{Inner, part_there, part_ends, unless_there}
 use Rattle.tars_wire.proofs.Machine.Counts.{positive}
 use Rattle.tars_wire.proofs.Machine.Forms.{contents_there}
-use Rattle.tars_wire.proofs.Scanning.Readings.{bind_ok, reading_contents}
+use Rattle.facts.proofs.ResultLaws.{bind_ok}
+use Rattle.tars_wire.proofs.Scanning.Readings.{reading_contents}
 use Rattle.tars_wire.proofs.TestLemmas.{ltb_suc, halves}
 
 front_of : (b high : ℕ) (type : WireType) (rest : List ℕ) → b ≡ 16 * high + code_of type → head_front (b ∷ rest) ≡ typed_front (Some type) high rest

@@ -1,4 +1,4 @@
--- Steps of a reader, one behind another: where one gives nothing, all do.
+-- Steps of a reader, one after the other: where one gives nothing, all do.
 use Rattle.std.specs.Prelude.{Option, option_and_then}
 
 infixl 10 ◌>>=◌
