@@ -27,6 +27,10 @@ pub mod EventLaws
 pub mod ScriptLaws
 pub mod SessionLaws
 pub mod LoadingLaws
+pub mod OneVerdict
+pub mod OneScript
+pub mod OneSession
+pub mod OneAnswer
 pub mod CallLemmas
 pub mod ReportLemmas
 pub mod EventLemmas

@@ -38,7 +38,7 @@ header_text s =
     (s.client, ((s.module_name, s.interface), (((o.app, (o.server, o.object)), (o.host, (o.port, o.timeout))), (s.func, (s.left, s.right)))))
 
 -- what a script means
-abbrev meaning : ScriptText → HeaderValue × List EventValue
+abbrev pub meaning : ScriptText → HeaderValue × List EventValue
 meaning s = (header_meant (header_text s), map event_meant s.events)
 
 -- ---- its lines
@@ -62,7 +62,7 @@ client_is s = refl
 lines_are : (s : ScriptText) → header_lines (header_text s) ++ map event_line s.events ≡ script_lines s
 lines_are s = cc (client_is s, interface_is s, object_is s.object, servant_is s)
 
-id_is : (o : ObjectText) → id_written (o.app, (o.server, o.object)) ≡ object_id o
+pub id_is : (o : ObjectText) → id_written (o.app, (o.server, o.object)) ≡ object_id o
 unfolding object_id
 id_is o = simp append_assoc
 
@@ -129,7 +129,7 @@ lines_from s bytes is = joined_lines bytes (script_lines s) is.lines (lines_plai
 abbrev behind : HeaderValue × List ℕ → Option (HeaderValue × List EventValue)
 behind header = events_on (lines_of header.1) >>= λ events. cond (leb (count_by is_call_value events) MAX_CALLS) (Some (header.0, events)) None
 
-again : (s : ScriptText) (bytes : List ℕ) → IsScriptText s bytes → script_at bytes ≡ Some (meaning s)
+pub again : (s : ScriptText) (bytes : List ℕ) → IsScriptText s bytes → script_at bytes ≡ Some (meaning s)
 unfolding script_at
 again s bytes is =
     let header = header_read.again (header_text s) bytes (map event_line s.events) (header_fits s bytes is) (lines_from s bytes is) in
@@ -167,7 +167,7 @@ written h ts bytes is are lines within calls =
 both_are : (x y : HeaderValue) (a b : List EventValue) → x ≡ y → a ≡ b → ◌≡◌ {A = HeaderValue × List EventValue} (x, a) (y, b)
 both_are x y a b p q = cc
 
-takes : (bytes : List ℕ) (v : HeaderValue × List EventValue) → script_at bytes ≡ Some v → (s : ScriptText) × IsScriptText s bytes × (v ≡ meaning s)
+pub takes : (bytes : List ℕ) (v : HeaderValue × List EventValue) → script_at bytes ≡ Some v → (s : ScriptText) × IsScriptText s bytes × (v ≡ meaning s)
 unfolding script_at
 takes bytes v e =
     let within = chosen (leb (length bytes) MAX_FILE) (header_at bytes >>= behind) v e in

@@ -31,7 +31,7 @@ use Rattle.session.proofs.Readers.{bind_some, some_is, chosen}
 
 -- ---- places
 
-place_found : (i : InterfaceText) (name : List ℕ) (k : ℕ) → place_in i name ≡ Some k → IsParameter i name × (k ≡ place_of i name)
+pub place_found : (i : InterfaceText) (name : List ℕ) (k : ℕ) → place_in i name ≡ Some k → IsParameter i name × (k ≡ place_of i name)
 unfolding place_in
 place_found i name k e = by_first (bytes_eq name i.first) refl
   where
@@ -43,7 +43,7 @@ place_found i name k e = by_first (bytes_eq name i.first) refl
     by_first true first = (inl ((bytes_eq-Decides name i.first).0 first), rw first (some_is k 0 (sym (rw first at e))))
     by_first false first = by_second (bytes_eq name i.second) refl first
 
-place_made : (i : InterfaceText) (name : List ℕ) → IsParameter i name → place_in i name ≡ Some (place_of i name)
+pub place_made : (i : InterfaceText) (name : List ℕ) → IsParameter i name → place_in i name ≡ Some (place_of i name)
 unfolding place_in
 place_made i name is = by_first (bytes_eq name i.first) refl is
   where
@@ -138,7 +138,7 @@ from_first n close ts = refl
 cons_is : (n m : ℕ) (t : EventText) (ts : List EventText) (e : Event) (rest es : List Event) → e ∷ rest ≡ es → e ≡ first_event n t → rest ≡ events_from m ts → m ≡ next_of n t → es ≡ events_from n (t ∷ ts)
 cons_is n m t ts e rest es joined first behind next = cc (from_first n t ts)
 
-events_found : (i : InterfaceText) (n : ℕ) (ts : List EventText) (es : List Event) → events_in i.func n (map event_meant ts) ≡ Some es → AllByRecursion (IsEventOf i) ts × (es ≡ events_from n ts)
+pub events_found : (i : InterfaceText) (n : ℕ) (ts : List EventText) (es : List Event) → events_in i.func n (map event_meant ts) ≡ Some es → AllByRecursion (IsEventOf i) ts × (es ≡ events_from n ts)
 events_found i n [] es e = (tt, sym (some_is [] es e))
 events_found i n (t ∷ ts) es e =
     let a = bind_some (event_in i.func n (event_meant t)) (λ event. events_in i.func (next_number n (event_meant t)) (map event_meant ts) >>= λ events. Some (event ∷ events)) es e in
@@ -147,7 +147,7 @@ events_found i n (t ∷ ts) es e =
     let rest = events_found i (next_number n (event_meant t)) ts b.0 b.1 in
     ((first.0, rest.0), cons_is n (next_number n (event_meant t)) t ts a.0 b.0 es (some_is (a.0 ∷ b.0) es b.2) first.1 rest.1 (next_is n t))
 
-events_made : (i : InterfaceText) (n : ℕ) (ts : List EventText) → AllByRecursion (IsEventOf i) ts → events_in i.func n (map event_meant ts) ≡ Some (events_from n ts)
+pub events_made : (i : InterfaceText) (n : ℕ) (ts : List EventText) → AllByRecursion (IsEventOf i) ts → events_in i.func n (map event_meant ts) ≡ Some (events_from n ts)
 events_made i n [] is = refl
 events_made i n (t ∷ ts) is =
     rw (event_made i n t is.0, events_made i (next_number n (event_meant t)) ts is.1, next_is n t, from_first n t ts) refl

@@ -4,6 +4,7 @@
 mod bodies;
 mod interface_fault;
 mod interface_file;
+mod laws;
 mod link_log;
 mod load_fault;
 mod loaded;
@@ -23,6 +24,7 @@ mod service;
 mod tars_frames;
 
 pub(crate) use interface_file::{InterfaceText, read_interface};
+pub use laws::one_answer;
 pub use link_log::{Cut, GotFate, GotRow, LinkLog, SentRow};
 pub use load_fault::LoadFault;
 pub use loaded::{CallSpec, Endpoint, Event, FuncRule, Loaded, ObjectName, Rule};

@@ -1,8 +1,6 @@
-use thiserror::Error;
-
 /// Why bytes were not decoded.
-#[derive(Clone, Copy, Debug, PartialEq, Eq, Error)]
+#[derive(Clone, Copy, Debug, PartialEq, Eq)]
 pub enum Refuse {
-    #[error("no memory")]
+    /// Memory ran out.
     Memory,
 }

@@ -88,13 +88,14 @@ fn fields_stand_under_their_tags(rt: HostRuntime) -> Result<(), Fail> {
 #[test]
 fn texts_of_255_bytes_have_a_short_length(rt: HostRuntime) -> Result<(), Fail> {
     let alloc = rt.alloc();
-    let cases: [(u16, &[u8]); 3] = [
+    let cases: [(u32, &[u8]); 4] = [
         (0, &[0x06, 0x00]),
         (255, &[0x06, 0xFF]),
         (256, &[0x07, 0x00, 0x00, 0x01, 0x00]),
+        (70000, &[0x07, 0x00, 0x01, 0x11, 0x70]),
     ];
     for (len, front) in cases {
-        let text = vec![in alloc; b'x'; usize::from(len)]?;
+        let text = vec![in alloc; b'x'; len as usize]?;
         let mut wanted = Vec::from_slice(alloc, front)?;
         wanted.extend_from_slice(&text)?;
         let members = [member(alloc, 0, Ty::Text)?];
@@ -112,28 +113,35 @@ fn texts_of_255_bytes_have_a_short_length(rt: HostRuntime) -> Result<(), Fail> {
 #[test]
 fn bytes_are_a_simple_list(rt: HostRuntime) -> Result<(), Fail> {
     let alloc = rt.alloc();
-    let cases: [(u8, &[u8]); 2] = [
+    let cases: [(u16, &[u8]); 4] = [
         (0, &[0x1D, 0x00, 0x0C]),
-        (1, &[0x1D, 0x00, 0x00, 0x01, 0x0B]),
+        (1, &[0x1D, 0x00, 0x00, 0x01]),
+        (300, &[0x1D, 0x00, 0x01, 0x01, 0x2C]),
+        (40000, &[0x1D, 0x00, 0x02, 0x00, 0x00, 0x9C, 0x40]),
     ];
-    for (len, wanted) in cases {
+    for (len, front) in cases {
         let bytes = vec![in alloc; 0x0B; usize::from(len)]?;
+        let mut wanted = Vec::from_slice(alloc, front)?;
+        wanted.extend_from_slice(&bytes)?;
         let members = [member(alloc, 1, Ty::Vector(Boxed::new(alloc, Ty::Byte)?))?];
         check(
             &rt,
             alloc,
             &members,
             &[Value::Blob(Bytes8::from_vec(bytes))],
-            wanted,
+            &wanted,
         )?;
     }
     Ok(())
 }
 
-fn text(alloc: Global, bytes: &[u8]) -> Result<Value, AllocError>
-    ensures { IfOk result (λ v. v ≡ Value.Text bytes.now) }
+fn pair(alloc: Global, key: &[u8], value: &[u8]) -> Result<Pair, AllocError>
+    ensures { IfOk result (λ p. (p.key ≡ Value.Text key.now) × (p.value ≡ Value.Text value.now)) }
 {
-    Ok(Value::Text(Bytes8::from_slice(alloc, bytes)?))
+    Ok(Pair {
+        key: Value::Text(Bytes8::from_slice(alloc, key)?),
+        value: Value::Text(Bytes8::from_slice(alloc, value)?),
+    })
 }
 
 fn map_member(alloc: Global, tag: u8) -> Result<Member, AllocError>
@@ -157,11 +165,15 @@ fn entries_stand_behind_their_number(rt: HostRuntime) -> Result<(), Fail> {
     )?;
 
     let mut pairs = List::new(alloc);
-    pairs.push(Pair {
-        key: text(alloc, b"a")?,
-        value: text(alloc, b"b")?,
-    })?;
+    pairs.push(pair(alloc, b"a", b"b")?)?;
+    pairs.push(pair(alloc, b"ab", b"")?)?;
+    pairs.push(pair(alloc, b"b", b"x")?)?;
     let members = [map_member(alloc, 0)?];
-    let wanted = [0x08, 0x00, 0x01, 0x06, 0x01, 0x61, 0x16, 0x01, 0x62];
+    let wanted = [
+        0x08, 0x00, 0x03, // three entries
+        0x06, 0x01, 0x61, 0x16, 0x01, 0x62, // a: b
+        0x06, 0x02, 0x61, 0x62, 0x16, 0x00, // ab: nothing
+        0x06, 0x01, 0x62, 0x16, 0x01, 0x78, // b: x
+    ];
     check(&rt, alloc, &members, &[Value::Map(pairs)], &wanted)
 }

@@ -20,7 +20,7 @@ same_script : (words : List (List ℕ)) (a b : List ℕ) → AskForPlan words a 
 same_script words a b first second = let same : codes "plan" ∷ b ∷ [] ≡ codes "plan" ∷ a ∷ [] = sym second.form ∙ first.form in cc
 
 -- what is due where loading gives this answer
-abbrev due_by : LoadAnswer → DueAnswer
+abbrev pub due_by : LoadAnswer → DueAnswer
 due_by (load.loaded l) = done (report_text_of l (planned l))
 due_by (load.refused line) = refused line
 due_by (load.unread name) = unread name
@@ -40,7 +40,7 @@ due_only c words script answer ask only other (plan_refused s line asked given) 
 due_only c words script answer ask only other (plan_done s l asked given) =
     ap due_by (only (load.loaded l) (subst (λ (s : List ℕ). Loads c s (load.loaded l)) (same_script words script s ask asked) given))
 
-exactly : (c : Contents) (words : List (List ℕ)) (script : List ℕ) (answer : LoadAnswer) → AskForPlan words script → Loads c script answer → ((other : LoadAnswer) → Loads c script other → other ≡ answer)
+pub exactly : (c : Contents) (words : List (List ℕ)) (script : List ℕ) (answer : LoadAnswer) → AskForPlan words script → Loads c script answer → ((other : LoadAnswer) → Loads c script other → other ≡ answer)
     → HoldsOnly (Due c words) (due_by answer)
 exactly c words script answer ask given only = record { holds = due_given c words script answer ask given; only = due_only c words script answer ask only }
 

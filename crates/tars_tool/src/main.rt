@@ -2,6 +2,7 @@
 //! the objects of the system, and the exit status.
 #![tactic(auto)]
 
+mod laws;
 mod opener;
 mod real_files;
 mod real_sink;

@@ -43,6 +43,7 @@ fn end_with<S: Sink>(out: &mut S, text: &[u8], meant: Status) -> Status
     requires { meant ≢ Status.WriteFault }
     ensures written { EndsWith (S.written out.old) (S.written out.new) text.now meant result }
     ensures cause { result ≡ Status.WriteFault → Rose (S.faults out.old) (S.faults out.new) }
+    ensures kept { result ≢ Status.WriteFault → S.faults out.new ≡ S.faults out.old }
 {
     match write_all(out, text) {
         Ok(()) => meant,
@@ -61,9 +62,11 @@ pub fn run<F: Files, S: Sink>(alloc: Global, words: &[String], files: &mut F, ou
     ensures sound { PrintsSession (S.written out.old) (S.written out.new) result }
     ensures quiet { KeepsQuiet (S.written out.old) (S.written out.new) result }
     ensures same { F.contents files.new ≡ F.contents files.old }
-    // The causes of the faults.
+    // The causes of the faults. A count rises in no other run.
     ensures read { result ≡ Status.ReadFault → Rose (F.faults files.old) (F.faults files.new) }
+    ensures no_read { result ≢ Status.ReadFault → F.faults files.new ≡ F.faults files.old }
     ensures write { result ≡ Status.WriteFault → Rose (S.faults out.old) (S.faults out.new) }
+    ensures no_write { result ≢ Status.WriteFault → S.faults out.new ≡ S.faults out.old }
     ensures net { result ≢ Status.NetFault }
 {
     let Some(script) = planned_script(words) else {
