@@ -1,33 +1,22 @@
 -- The text of a report (docs/SCRIPTS.md, "Reports").
-use Rattle.std.specs.Prelude.{ℕ, ◌+◌, Bool, false, ◌==◌, not, ℤ, pos, if◌then◌else◌, Option, Some, None, List, [], ◌∷◌, ◌++◌, length, count_by, slice_index_or, codes}
+use Rattle.std.specs.Prelude.{ℕ, ◌+◌, Bool, false, ◌==◌, not, if◌then◌else◌, Option, Some, None, List, [], ◌∷◌, ◌++◌, length, count_by, codes}
 use Rattle.std.specs.List.{flat_map}
-use Rattle.std.specs.Fmt.{decimal, signed_decimal}
+use Rattle.std.specs.Fmt.{decimal}
 use Rattle.hex.specs.Hex.{encode_upper}
-use Rattle.tars_model.specs.declared.value.Value.{Value, Num, out-Value}
-use Rattle.session.specs.declared.link_log.GotFate.{GotFate}
-use Rattle.session.specs.declared.link_log.GotFate.TheVariants.{Used, Late}
-use Rattle.session.specs.declared.link_log.GotRow.{GotRow}
-use Rattle.session.specs.declared.link_log.LinkLog.{LinkLog}
-use Rattle.session.specs.declared.link_log.SentRow.{SentRow}
-use Rattle.session.specs.declared.loaded.Loaded.{Loaded}
-use Rattle.session.specs.declared.report.CallId.{CallId}
-use Rattle.session.specs.declared.report.End.{End}
-use Rattle.session.specs.declared.report.End.TheVariants.{Value as ValueEnd, Code, Closed, Refused}
-use Rattle.session.specs.declared.report.PickNote.{PickNote}
-use Rattle.session.specs.declared.report.Refusal.{Refusal}
-use Rattle.session.specs.declared.report.Refusal.TheVariants as refusal
-use Rattle.session.specs.declared.report.Report.{Report}
-use Rattle.session.specs.declared.report.Row.{Row}
-use Rattle.session.specs.declared.report.Why.{Why}
-use Rattle.session.specs.declared.report.Why.TheVariants.{Live}
-use Rattle.session.specs.Replies.{number_of_layer}
-use Rattle.session.specs.Sessions.{func_of}
+use Rattle.session_model.specs.declared.link_log.GotFate.{GotFate}
+use Rattle.session_model.specs.declared.link_log.GotFate.TheVariants.{Used, Late}
+use Rattle.session_model.specs.declared.link_log.GotRow.{GotRow}
+use Rattle.session_model.specs.declared.link_log.LinkLog.{LinkLog}
+use Rattle.session_model.specs.declared.link_log.SentRow.{SentRow}
+use Rattle.session_model.specs.declared.loaded.Loaded.{Loaded}
+use Rattle.session_model.specs.declared.report.CallId.{CallId}
+use Rattle.session_model.specs.declared.report.PickNote.{PickNote}
+use Rattle.session_model.specs.declared.report.Report.{Report}
+use Rattle.session_model.specs.declared.report.Row.{Row}
+use Rattle.session_model.specs.ReportWords.{why_text, end_text}
+use Rattle.session_model.specs.Sessions.{func_of}
 
 -- The line of a call: `call K line L FUNC[ node N WHY][ id I] END`.
-
--- what was known of the node
-abbrev pub why_text : Why → List ℕ
-why_text Live = codes "live"
 
 -- ` node N WHY`, where a node was picked
 unfoldable pub pick_text : Option PickNote → List ℕ
@@ -38,21 +27,6 @@ pick_text (Some pick) = codes " node " ++ decimal pick.node ++ codes " " ++ why_
 unfoldable pub id_text : Option CallId → List ℕ
 id_text None = []
 id_text (Some id) = codes " id " ++ decimal id.0
-
--- what a function returned, the first value of its reply, which is a number
-abbrev pub returned : List Value → ℤ
-returned values = number_of_layer (out-Value (slice_index_or values 0 (Num (pos 0))))
-
-abbrev pub refusal_text : Refusal → List ℕ
-refusal_text refusal.Full = codes "full"
-refusal_text (refusal.Closed word) = codes "closed"
-
--- how the call came out
-abbrev pub end_text : End → List ℕ
-end_text (ValueEnd link packet values) = codes "value " ++ signed_decimal (returned values)
-end_text (Code link packet code) = codes "code " ++ signed_decimal code
-end_text Closed = codes "closed"
-end_text (Refused why) = codes "refused " ++ refusal_text why
 
 unfoldable pub call_line : Loaded → Row → List ℕ
 call_line l row =

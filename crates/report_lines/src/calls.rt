@@ -1,10 +1,10 @@
 ghost use Rattle.std.specs.Prelude.{◌≡◌, ◌++◌, not, OnOk, IfOk, count_by};
 ghost use Rattle.std.specs.List.{flat_map};
-ghost use Rattle.session.specs.Sessions.{func_of};
-ghost use Rattle.session.specs.ReportText.{pick_text, id_text, call_line, done_line};
+ghost use Rattle.session_model.specs.Sessions.{func_of};
+ghost use Rattle.report_lines.specs.ReportText.{pick_text, id_text, call_line, done_line};
 
-use super::lines::Lines;
-use crate::{CallId, Loaded, PickNote, Row};
+use crate::lines::Lines;
+use session_model::{CallId, Loaded, PickNote, Row};
 use std::alloc::AllocError;
 
 /// The name of a function of the caller's interface, and none where it has no such function.

@@ -1,10 +1,10 @@
 ghost use Rattle.std.specs.Prelude.{◌≡◌, ◌++◌, OnOk, IfOk};
 ghost use Rattle.std.specs.String.{string_bytes};
 ghost use Rattle.std.specs.List.{flat_map};
-ghost use Rattle.session.specs.ReportText.{call_with, sent_line, fate_text, got_line, numbered_lines, sent_lines, got_lines};
+ghost use Rattle.report_lines.specs.ReportText.{call_with, sent_line, fate_text, got_line, numbered_lines, sent_lines, got_lines};
 
-use super::lines::Lines;
-use crate::{CallId, GotFate, GotRow, LinkLog, Row, SentRow};
+use crate::lines::Lines;
+use session_model::{CallId, GotFate, GotRow, LinkLog, Row, SentRow};
 use std::alloc::AllocError;
 
 /// The number of the call whose row has the id, and 0 where none has it.

@@ -1,15 +1,8 @@
-//! The text of a report (docs/SCRIPTS.md, "Reports"), line by line.
-
-mod calls;
-mod lines;
-mod links;
-mod words;
-
 ghost use Rattle.std.specs.Prelude.{◌≡◌, IfOk};
-ghost use Rattle.session.specs.ReportText.{report_text_of};
+ghost use Rattle.report_lines.specs.ReportText.{report_text_of};
 
-use crate::{Loaded, Report};
-use lines::Lines;
+use crate::lines::Lines;
+use session_model::{Loaded, Report};
 use std::alloc::{AllocError, Global};
 
 /// The text of a report (docs/SCRIPTS.md, "Reports").

@@ -4,19 +4,19 @@ use Rattle.std.specs.List.{AllByRecursion}
 use Rattle.std.specs.Str.{bytes_eq}
 use Rattle.std.proofs.lemmas.List.Folds.{list_all-append}
 use Rattle.std.proofs.lemmas.Slice.Eq.{bytes_eq-Decides}
-use Rattle.session.specs.Words.{is_letter, IsName, is_number}
-use Rattle.session.specs.Reading.{int_of, EventValue, event_meant}
-use Rattle.session.specs.Reading as value
+use Rattle.script_text.specs.Words.{is_letter, IsName, is_number}
+use Rattle.script_text.specs.Reading.{int_of, EventValue, event_meant}
+use Rattle.script_text.specs.Reading as value
 use Rattle.wire_words.specs.Bind.{◌>>=◌}
-use Rattle.session.specs.ScriptText.{EventText, event_line, IsEvent}
-use Rattle.session.specs.TextLimits.{MAX_LINE}
-use Rattle.session.specs.ScriptText as script
-use Rattle.session.specs.ScriptSteps.{call_on, event_on, short, events_on}
-use Rattle.session.proofs.Readers.{IsWhole, bind_some, bind_is, some_is, skip_whole, before_front, and_whole, map_whole}
-use Rattle.session.proofs.Names.{lacks_from, name_before_front}
-use Rattle.session.proofs.Numbers.{number_whole, number_lacks}
-use Rattle.session.proofs.Lines.{IsPlain}
-use Rattle.session.proofs.LineReaders.{short_takes, short_again}
+use Rattle.script_text.specs.ScriptText.{EventText, event_line, IsEvent}
+use Rattle.script_text.specs.TextLimits.{MAX_LINE}
+use Rattle.script_text.specs.ScriptText as script
+use Rattle.script_text.specs.ScriptSteps.{call_on, event_on, short, events_on}
+use Rattle.script_text.proofs.Readers.{IsWhole, bind_some, bind_is, some_is, skip_whole, before_front, and_whole, map_whole}
+use Rattle.script_text.proofs.Names.{lacks_from, name_before_front}
+use Rattle.script_text.proofs.Numbers.{number_whole, number_lacks}
+use Rattle.script_text.proofs.Lines.{IsPlain}
+use Rattle.script_text.proofs.LineReaders.{short_takes, short_again}
 
 -- ---- a call
 

@@ -1,12 +1,12 @@
 -- Reading events one line after the other, as a loop does.
 use Rattle.std.proofs.Common.{◌≡◌, ℕ, ◌<◌, List, [], ◌∷◌, ◌++◌, length, Option, Some, None, refl, sym, ap, subst, ◌∙◌, append_assoc, arith}
 use Rattle.std.proofs.lemmas.List.{append-nil}
-use Rattle.session.specs.Reading.{EventValue}
+use Rattle.script_text.specs.Reading.{EventValue}
 use Rattle.wire_words.specs.Bind.{◌>>=◌}
-use Rattle.session.specs.ScriptSteps.{lines_of, short, event_on, event_at, events_on}
-use Rattle.session.proofs.Readers.{bind_some, bind_is, some_is}
-use Rattle.session.proofs.Lines.{first_line, behind_line, lines_of_first}
-use Rattle.session.proofs.LineReaders.{on_line_is}
+use Rattle.script_text.specs.ScriptSteps.{lines_of, short, event_on, event_at, events_on}
+use Rattle.script_text.proofs.Readers.{bind_some, bind_is, some_is}
+use Rattle.script_text.proofs.Lines.{first_line, behind_line, lines_of_first}
+use Rattle.script_text.proofs.LineReaders.{on_line_is}
 
 -- what was read before, and what is still read
 abbrev pub with_front : List EventValue → Option (List EventValue) → Option (List EventValue)

@@ -5,17 +5,17 @@ use Rattle.std.specs.List.{list_all, AllByRecursion}
 use Rattle.std.specs.Str.Parse.{digits_value}
 use Rattle.std.proofs.lemmas.Bool.{and_parts, and_from, leb-true, le-leb, cond-true}
 use Rattle.std.proofs.lemmas.List.Folds.{list_all-append}
-use Rattle.session.specs.Words.{is_letter, IsName, IsNaturalWithin}
-use Rattle.session.specs.ScriptText.{IsFileName, IsWordOf, is_part_byte, is_host_byte}
-use Rattle.session.specs.TextLimits.{MAX_PORT, MAX_TIMEOUT, MAX_LINE}
-use Rattle.session.specs.Scan.{utf8, before, ◌&>◌}
-use Rattle.session.specs.ScriptSteps.{is_word_of, is_file_byte, file_name, client_at, interface_at, servant_at, part, host, id, node, object_at, HeaderValue, header_from, header_at}
-use Rattle.session.proofs.Readers.{chosen, lacks, IsWhole, bind_some, bind_is, some_is, tested_whole, skip_whole, before_front, and_whole}
-use Rattle.session.proofs.Names.{lacks_from, name_whole, name_before_front}
-use Rattle.session.proofs.Texts.{utf8_takes, utf8_again}
-use Rattle.session.proofs.Numbers.{natural_lacks, natural_within_whole}
-use Rattle.session.proofs.Lines.{IsPlain}
-use Rattle.session.proofs.LineReaders.{IsLines, line_lines, map_lines, and_lines}
+use Rattle.script_text.specs.Words.{is_letter, IsName, IsNaturalWithin}
+use Rattle.script_text.specs.ScriptText.{IsFileName, IsWordOf, is_part_byte, is_host_byte}
+use Rattle.script_text.specs.TextLimits.{MAX_PORT, MAX_TIMEOUT, MAX_LINE}
+use Rattle.script_text.specs.Scan.{utf8, before, ◌&>◌}
+use Rattle.script_text.specs.ScriptSteps.{is_word_of, is_file_byte, file_name, client_at, interface_at, servant_at, part, host, id, node, object_at, HeaderValue, header_from, header_at}
+use Rattle.script_text.proofs.Readers.{chosen, lacks, IsWhole, bind_some, bind_is, some_is, tested_whole, skip_whole, before_front, and_whole}
+use Rattle.script_text.proofs.Names.{lacks_from, name_whole, name_before_front}
+use Rattle.script_text.proofs.Texts.{utf8_takes, utf8_again}
+use Rattle.script_text.proofs.Numbers.{natural_lacks, natural_within_whole}
+use Rattle.script_text.proofs.Lines.{IsPlain}
+use Rattle.script_text.proofs.LineReaders.{IsLines, line_lines, map_lines, and_lines}
 
 -- ---- words
 

@@ -2,11 +2,11 @@
 use Rattle.std.proofs.Common.{◌≡◌, ℕ, ◌<◌, ◌≤◌, true, leb, ltb, List, [], ◌∷◌, ◌++◌, length, Some, None, refl, sym, ap, subst, ◌∙◌, append_assoc, arith, inl, inr}
 use Rattle.std.proofs.lemmas.Bool.{cases_Bool, lt-ltb, leb-true, le-leb, cond-true}
 use Rattle.wire_words.specs.Bind.{◌>>=◌}
-use Rattle.session.specs.Scan.{Whole, Front, ◌&◌}
-use Rattle.session.specs.TextLimits.{MAX_LINE}
-use Rattle.session.specs.ScriptSteps.{line_at, on_line, lines_of, short}
-use Rattle.session.proofs.Readers.{chosen, IsWhole, bind_some, bind_is, some_is}
-use Rattle.session.proofs.Lines.{first_line, behind_line, lines_of_first}
+use Rattle.script_text.specs.Scan.{Whole, Front, ◌&◌}
+use Rattle.script_text.specs.TextLimits.{MAX_LINE}
+use Rattle.script_text.specs.ScriptSteps.{line_at, on_line, lines_of, short}
+use Rattle.script_text.proofs.Readers.{chosen, IsWhole, bind_some, bind_is, some_is}
+use Rattle.script_text.proofs.Lines.{first_line, behind_line, lines_of_first}
 
 -- a line that is read is the first one, unless it is too long
 pub on_line_is : {V : Type 0} (read : Whole V) (bytes : List ℕ) → 0 < length bytes → on_line read bytes ≡ (short read (first_line bytes) >>= λ v. Some (v, behind_line bytes))

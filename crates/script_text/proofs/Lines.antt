@@ -2,8 +2,8 @@
 use Rattle.std.proofs.Common.{◌≡◌, ℕ, suc, ◌+◌, ◌<◌, ◌≤◌, true, false, cond, eqb, not, List, [], ◌∷◌, ◌++◌, length, codes, take, drop, refl, sym, ap, subst, ◌∙◌, append_assoc, arith, ◌⊎◌, inl, inr}
 use Rattle.std.specs.List.{position_or_len, before_first, after_first, onto_first, flat_map, AllByRecursion}
 use Rattle.std.proofs.lemmas.Bool.{and_parts, cond-false, cases_Bool, eqb-true, not-true}
-use Rattle.session.specs.ScriptSteps.{lines_of}
-use Rattle.session.proofs.Readers.{lacks}
+use Rattle.script_text.specs.ScriptSteps.{lines_of}
+use Rattle.script_text.proofs.Readers.{lacks}
 
 -- the first line, and what stands behind its line feed
 abbrev pub first_line : List ℕ → List ℕ

@@ -11,10 +11,10 @@ use Rattle.idl_parse.specs.declared.keyword.Keyword.{Keyword}
 use Rattle.idl_parse.specs.Lexing.{keyword_of}
 use Rattle.idl_parse.specs.Spellings.{keyword_text}
 use Rattle.idl_parse.proofs.WordLaws.{keyword_means, keyword_found, keyword_is}
-use Rattle.session.specs.TextLimits.{MAX_NAME}
-use Rattle.session.specs.Words.{is_letter, IsName}
-use Rattle.session.specs.Scan.{is_keyword, is_name, name, name_before}
-use Rattle.session.proofs.Readers.{lacks, IsWhole, IsFront, tested_whole, before_front}
+use Rattle.script_text.specs.TextLimits.{MAX_NAME}
+use Rattle.script_text.specs.Words.{is_letter, IsName}
+use Rattle.script_text.specs.Scan.{is_keyword, is_name, name, name_before}
+use Rattle.script_text.proofs.Readers.{lacks, IsWhole, IsFront, tested_whole, before_front}
 
 -- bytes of which each passes a test lack what fails it
 pub lacks_from : (test : ℕ → Bool) (c : ℕ) (bytes : List ℕ) → test c ≡ false → list_all test bytes ≡ true → lacks c bytes ≡ true

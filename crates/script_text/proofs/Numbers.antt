@@ -11,15 +11,15 @@ use Rattle.std.proofs.lemmas.Str.{IsUtf8-from_ascii}
 use Rattle.std.proofs.lemmas.Str.Ascii.{IsAscii-nil, IsAscii-cons}
 use Rattle.std.proofs.lemmas.Str.Parse.{IsNumeralModel, numerals_by_value, parse_digits, parse_signed_digits, parse_signed_minus}
 use Rattle.std.proofs.lemmas.Option.{cond_some}
-use Rattle.session.specs.Words.{is_digit, is_natural, is_number, number_of, IsNaturalWithin}
-use Rattle.session.specs.Scan.{Gives}
-use Rattle.session.specs.Numbers.{natural, natural_within, number}
-use Rattle.session.specs.Reading.{int_of}
+use Rattle.script_text.specs.Words.{is_digit, is_natural, is_number, number_of, IsNaturalWithin}
+use Rattle.script_text.specs.Scan.{Gives}
+use Rattle.script_text.specs.Numbers.{natural, natural_within, number}
+use Rattle.script_text.specs.Reading.{int_of}
 use Rattle.tars_model.specs.Fits.{is_int}
-use Rattle.session.specs.Scan.{utf8}
-use Rattle.session.proofs.Texts.{utf8_takes}
-use Rattle.session.proofs.Names.{lacks_from}
-use Rattle.session.proofs.Readers.{lacks, IsWhole, bind_some, bind_is}
+use Rattle.script_text.specs.Scan.{utf8}
+use Rattle.script_text.proofs.Texts.{utf8_takes}
+use Rattle.script_text.proofs.Names.{lacks_from}
+use Rattle.script_text.proofs.Readers.{lacks, IsWhole, bind_some, bind_is}
 
 -- digits, in our words
 digits : IsNumeralModel (λ ds. list_all is_digit ds ≡ true) (digits_value 10)

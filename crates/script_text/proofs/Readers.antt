@@ -9,7 +9,7 @@ use Rattle.std.proofs.lemmas.List.{take_at, drop_at, take-append-drop, length-ap
 use Rattle.std.proofs.lemmas.Slice.Eq.{bytes_eq-Decides}
 use Rattle.std.proofs.lemmas.Option.{cond_some}
 use Rattle.wire_words.specs.Bind.{◌>>=◌}
-use Rattle.session.specs.Scan.{Whole, Front, after, word_before, tested, skip, before, ◌&◌, ◌&>◌}
+use Rattle.script_text.specs.Scan.{Whole, Front, after, word_before, tested, skip, before, ◌&◌, ◌&>◌}
 
 -- no byte is c
 abbrev pub lacks : ℕ → List ℕ → Bool

@@ -4,19 +4,19 @@ use Rattle.std.specs.Prelude.{IfSome, IsSomeAnd, count_by, fold}
 use Rattle.std.specs.List.{AllByRecursion}
 use Rattle.std.proofs.lemmas.Bool.{leb-true, le-leb, cond-true}
 use Rattle.std.proofs.lemmas.Option.{cond_some}
-use Rattle.session.specs.declared.script.ScriptText.{ScriptText as ScriptStruct}
-use Rattle.session.specs.TextLimits.{MAX_FILE}
-use Rattle.session.specs.ScriptText.{EventText, ObjectText, ScriptText, object_id, client_line, interface_header, object_line, servant_line, event_line, script_lines, script_text, is_host_byte, IsObject, IsEvent, is_call, IsScriptText}
-use Rattle.session.specs.TextLimits.{MAX_LINE, MAX_CALLS}
-use Rattle.session.specs.ScriptText as script
-use Rattle.session.specs.Reading.{EventValue, event_meant, Reads}
+use Rattle.script_text.specs.declared.script.ScriptText.{ScriptText as ScriptStruct}
+use Rattle.script_text.specs.TextLimits.{MAX_FILE}
+use Rattle.script_text.specs.ScriptText.{EventText, ObjectText, ScriptText, object_id, client_line, interface_header, object_line, servant_line, event_line, script_lines, script_text, is_host_byte, IsObject, IsEvent, is_call, IsScriptText}
+use Rattle.script_text.specs.TextLimits.{MAX_LINE, MAX_CALLS}
+use Rattle.script_text.specs.ScriptText as script
+use Rattle.script_text.specs.Reading.{EventValue, event_meant, Reads}
 use Rattle.wire_words.specs.Bind.{◌>>=◌}
-use Rattle.session.specs.Scan.{Gives}
-use Rattle.session.specs.ScriptSteps.{lines_of, events_on, is_call_value, HeaderValue, header_at, script_of, script_at}
-use Rattle.session.proofs.Readers.{chosen, bind_some, bind_is, some_is}
-use Rattle.session.proofs.Lines.{IsPlain, IsJoined, lines_join, joined_lines}
-use Rattle.session.proofs.HeaderLaws.{id_written, HeaderText, client_written, interface_written, object_written, servant_written, header_lines, IsHeader, header_meant, header_read, header_plain}
-use Rattle.session.proofs.EventLaws.{event_plain, IsShortEvent, events_take, events_again}
+use Rattle.script_text.specs.Scan.{Gives}
+use Rattle.script_text.specs.ScriptSteps.{lines_of, events_on, is_call_value, HeaderValue, header_at, script_of, script_at}
+use Rattle.script_text.proofs.Readers.{chosen, bind_some, bind_is, some_is}
+use Rattle.script_text.proofs.Lines.{IsPlain, IsJoined, lines_join, joined_lines}
+use Rattle.script_text.proofs.HeaderLaws.{id_written, HeaderText, client_written, interface_written, object_written, servant_written, header_lines, IsHeader, header_meant, header_read, header_plain}
+use Rattle.script_text.proofs.EventLaws.{event_plain, IsShortEvent, events_take, events_again}
 
 -- ---- a script and the parts that are read
 

@@ -1,10 +1,10 @@
 -- How a number's text is read.
 use Rattle.std.specs.Prelude.{◌^◌, ℕ, ◌&&◌, nat_le, nat_lt, if◌then◌else◌, ℤ, Option, Some, None}
 use Rattle.std.specs.Str.Parse.{digits_value}
-use Rattle.session.specs.Words.{is_natural, is_number}
-use Rattle.session.specs.Reading.{int_of}
+use Rattle.script_text.specs.Words.{is_natural, is_number}
+use Rattle.script_text.specs.Reading.{int_of}
 use Rattle.wire_words.specs.Bind.{◌>>=◌}
-use Rattle.session.specs.Scan.{Whole}
+use Rattle.script_text.specs.Scan.{Whole}
 
 -- a natural number below 2 ^ 32
 unfoldable pub natural : Whole ℕ

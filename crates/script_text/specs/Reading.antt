@@ -1,20 +1,13 @@
--- What the structs that the readers return hold, and what a script's text means
--- (`specs/InterfaceFile.antt`, `specs/ScriptText.antt`).
+-- What the structs of a script that was read hold, and what its text means (`specs/ScriptText.antt`).
 use Rattle.std.specs.Prelude.{◌≡◌, ℕ, if◌then◌else◌, ℤ, List, map, Option, Some, None}
 use Rattle.std.specs.Str.Parse.{digits_value}
-use Rattle.session.specs.declared.interface_file.InterfaceText.{InterfaceText as InterfaceStruct}
-use Rattle.session.specs.declared.script.event.EventText.{EventText as EventEnum}
-use Rattle.session.specs.declared.script.event.EventText.TheVariants as events
-use Rattle.session.specs.declared.script.ScriptText.{ScriptText as ScriptStruct}
-use Rattle.session.specs.InterfaceFile.{InterfaceText}
-use Rattle.session.specs.ScriptText.{EventText, ScriptText, object_id}
-use Rattle.session.specs.ScriptText as script
-use Rattle.session.specs.Words.{number_of}
+use Rattle.script_text.specs.declared.script.event.EventText.{EventText as EventEnum}
+use Rattle.script_text.specs.declared.script.event.EventText.TheVariants as events
+use Rattle.script_text.specs.declared.script.ScriptText.{ScriptText as ScriptStruct}
+use Rattle.script_text.specs.ScriptText.{EventText, ScriptText, object_id}
+use Rattle.script_text.specs.ScriptText as script
+use Rattle.script_text.specs.Words.{number_of}
 use Rattle.tars_model.specs.Fits.{is_int}
-
--- the names that the struct of an interface file holds
-abbrev pub names_of : InterfaceStruct → InterfaceText
-names_of r = record { module_name = r.module.now; interface = r.interface.now; func = r.func.now; first = r.first.now; second = r.second.now }
 
 -- the int that a number's text means, if it means one
 unfoldable pub int_of : List ℕ → Option ℤ

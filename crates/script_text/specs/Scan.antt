@@ -3,8 +3,8 @@ use Rattle.std.specs.Prelude.{◌≡◌, ℕ, Bool, ◌&&◌, ◌==◌, not, nat
 use Rattle.std.specs.List.{list_all}
 use Rattle.std.specs.Str.{bytes_eq, is_utf8}
 use Rattle.idl_parse.specs.Lexing.{keyword_of}
-use Rattle.session.specs.TextLimits.{MAX_NAME}
-use Rattle.session.specs.Words.{is_letter}
+use Rattle.script_text.specs.TextLimits.{MAX_NAME}
+use Rattle.script_text.specs.Words.{is_letter}
 use Rattle.wire_words.specs.Bind.{◌>>=◌}
 
 -- what a function returned, seen by view, is what reading gives

@@ -2,17 +2,17 @@
 use Rattle.std.specs.Prelude.{ℕ, Bool, true, false, ◌&&◌, ◌||◌, ◌==◌, not, nat_le, nat_lt, if◌then◌else◌, List, [], ◌∷◌, length, map, count_by, Option, Some, None, codes}
 use Rattle.std.specs.List.{list_all, before_first, after_first, onto_first}
 use Rattle.std.specs.Str.{bytes_eq}
-use Rattle.session.specs.declared.script.ScriptText.{ScriptText}
-use Rattle.session.specs.declared.script.object.ObjectText.{ObjectText}
-use Rattle.session.specs.declared.script.header.Header.{Header}
-use Rattle.session.specs.declared.script.header.InterfaceName.{InterfaceName}
-use Rattle.session.specs.declared.script.header.RuleText.{RuleText}
-use Rattle.session.specs.Numbers.{natural_within, number}
-use Rattle.session.specs.Reading.{EventValue, event_of, call, serve, work, deliver, close}
-use Rattle.session.specs.TextLimits.{MAX_FILE, MAX_LINE, MAX_CALLS, MAX_PORT, MAX_TIMEOUT}
-use Rattle.session.specs.ScriptText.{is_part_byte, is_host_byte}
+use Rattle.script_text.specs.declared.script.ScriptText.{ScriptText}
+use Rattle.script_text.specs.declared.script.object.ObjectText.{ObjectText}
+use Rattle.script_text.specs.declared.script.header.Header.{Header}
+use Rattle.script_text.specs.declared.script.header.InterfaceName.{InterfaceName}
+use Rattle.script_text.specs.declared.script.header.RuleText.{RuleText}
+use Rattle.script_text.specs.Numbers.{natural_within, number}
+use Rattle.script_text.specs.Reading.{EventValue, event_of, call, serve, work, deliver, close}
+use Rattle.script_text.specs.TextLimits.{MAX_FILE, MAX_LINE, MAX_CALLS, MAX_PORT, MAX_TIMEOUT}
+use Rattle.script_text.specs.ScriptText.{is_part_byte, is_host_byte}
 use Rattle.wire_words.specs.Bind.{◌>>=◌}
-use Rattle.session.specs.Scan.{Whole, Front, tested, skip, before, within, ◌&◌, ◌&>◌, name, name_before, utf8}
+use Rattle.script_text.specs.Scan.{Whole, Front, tested, skip, before, within, ◌&◌, ◌&>◌, name, name_before, utf8}
 
 -- the line in front, without its line feed; the last one may have none
 unfoldable pub line_at : Front (List ℕ)

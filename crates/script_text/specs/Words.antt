@@ -4,7 +4,7 @@ use Rattle.std.specs.List.{list_all}
 use Rattle.std.specs.Str.Parse.{digits_value}
 use Rattle.idl_parse.specs.declared.keyword.Keyword.{Keyword}
 use Rattle.idl_parse.specs.Spellings.{keyword_text}
-use Rattle.session.specs.TextLimits.{MAX_NAME}
+use Rattle.script_text.specs.TextLimits.{MAX_NAME}
 
 -- `0`
 abbrev pub ZERO : ℕ

@@ -3,9 +3,9 @@
 
 ghost use Rattle.std.specs.Prelude.{◌≡◌, ◌<◌, ◌==◌, length, position, IfSome};
 ghost use Rattle.std.specs.List.{list_all};
-ghost use Rattle.session.specs.Words.{is_letter};
-ghost use Rattle.session.specs.Scan.{Gives, after, word_before, is_keyword, is_name};
-ghost use Rattle.session.specs.Scan.{name, name_before, utf8};
+ghost use Rattle.script_text.specs.Words.{is_letter};
+ghost use Rattle.script_text.specs.Scan.{Gives, after, word_before, is_keyword, is_name};
+ghost use Rattle.script_text.specs.Scan.{name, name_before, utf8};
 
 use idl_parse::Keyword;
 use std::str;

@@ -1,11 +1,11 @@
 //! Scripts (docs/SCRIPTS.md, "Accepted scripts").
 
 ghost use Rattle.std.specs.Prelude.{◌≡◌, map, IfOk, IfSome, IsSomeAnd};
-ghost use Rattle.session.specs.Reading.{event_of, Reads};
-ghost use Rattle.session.specs.Scan.{Gives};
-ghost use Rattle.session.specs.ScriptText.{IsScriptText};
-ghost use Rattle.session.specs.ScriptText as written;
-ghost use Rattle.session.specs.ScriptSteps.{header_of, script_of, script_at};
+ghost use Rattle.script_text.specs.Reading.{event_of, Reads};
+ghost use Rattle.script_text.specs.Scan.{Gives};
+ghost use Rattle.script_text.specs.ScriptText.{IsScriptText};
+ghost use Rattle.script_text.specs.ScriptText as written;
+ghost use Rattle.script_text.specs.ScriptSteps.{header_of, script_of, script_at};
 
 use crate::scan::MAX_FILE;
 use std::alloc::{AllocError, Global};

@@ -5,7 +5,7 @@ use crate::{CallId, End, PickNote};
 
 /// A scripted call while the session runs.
 #[derive(Debug, Drop)]
-pub(crate) struct Pending {
+pub(crate) struct CallState {
     pub call: u32,
     pub line: u32,
     pub func: u32,
@@ -16,7 +16,7 @@ pub(crate) struct Pending {
     pub end: Option<End>,
 }
 
-impl Pending {
+impl CallState {
     /// Whether the call is open under this id.
     pub fn is_open_under(&self, id: u32) -> bool
         ensures { result ≡ is_open_under id self.now }
@@ -38,7 +38,7 @@ impl Pending {
 }
 
 /// Ends each call that is open.
-pub(crate) fn close_all(calls: &mut Vec<Pending>)
+pub(crate) fn close_all(calls: &mut Vec<CallState>)
     ensures { calls.new.items ≡ map closed_call calls.old.items }
 {
     for call in calls.iter_mut() {

@@ -4,8 +4,8 @@ use Rattle.tars_model.specs.Fits.{is_int}
 use Rattle.tars_model.specs.declared.value.Value.{Value, Num, out-Value}
 use Rattle.tars_model.specs.declared.value.Value.TheOpen as layer
 use Rattle.tars_model.specs.declared.value.Pair.{Pair}
-use Rattle.session.specs.declared.loaded.Rule.{Rule}
-use Rattle.session.specs.declared.loaded.Rule.TheVariants.{Add}
+use Rattle.session_model.specs.declared.loaded.Rule.{Rule}
+use Rattle.session_model.specs.declared.loaded.Rule.TheVariants.{Add}
 
 -- a sum, or a return code
 pub data Reply : Type 0 where

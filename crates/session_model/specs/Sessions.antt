@@ -6,12 +6,12 @@ use Rattle.tars_model.specs.declared.interface_desc.InterfaceDesc.{InterfaceDesc
 use Rattle.tars_model.specs.declared.schema.Schema.{Schema}
 use Rattle.tars_model.specs.declared.schema.Decl.TheVariants.{Interface}
 use Rattle.tars_model.specs.declared.ty.Ty.{Int}
-use Rattle.session.specs.declared.loaded.Endpoint.{Endpoint}
-use Rattle.session.specs.declared.loaded.Loaded.{Loaded}
-use Rattle.session.specs.declared.loaded.Rule.{Rule}
-use Rattle.session.specs.declared.loaded.Rule.TheVariants.{Add}
-use Rattle.session.specs.declared.report.PickNote.{PickNote}
-use Rattle.session.specs.declared.report.Why.TheVariants.{Live}
+use Rattle.session_model.specs.declared.loaded.Endpoint.{Endpoint}
+use Rattle.session_model.specs.declared.loaded.Loaded.{Loaded}
+use Rattle.session_model.specs.declared.loaded.Rule.{Rule}
+use Rattle.session_model.specs.declared.loaded.Rule.TheVariants.{Add}
+use Rattle.session_model.specs.declared.report.PickNote.{PickNote}
+use Rattle.session_model.specs.declared.report.Why.TheVariants.{Live}
 
 -- how many calls of the line may be in flight
 abbrev pub WIDTH : ℕ

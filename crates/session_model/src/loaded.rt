@@ -1,8 +1,5 @@
 use tars_model::{List, Name, Schema, Value};
 
-/// The number of the one node.
-pub(crate) const NODE: u32 = 1;
-
 /// A node of an object: where it listens, and how long a call to it may take.
 #[derive(Debug, Drop)]
 pub struct Endpoint {

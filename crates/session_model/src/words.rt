@@ -1,7 +1,7 @@
 //! How the parts of a report print.
 
 ghost use Rattle.std.specs.Prelude.{◌≡◌, Some};
-ghost use Rattle.session.specs.ReportText.{why_text, refusal_text, end_text, returned};
+ghost use Rattle.session_model.specs.ReportWords.{why_text, refusal_text, end_text, returned};
 
 use crate::{End, Refusal, Why};
 use std::fmt;

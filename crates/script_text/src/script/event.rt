@@ -1,9 +1,9 @@
 //! The events of a script.
 
 ghost use Rattle.std.specs.Prelude.{◌<◌, length, IfSome};
-ghost use Rattle.session.specs.Reading.{event_of};
-ghost use Rattle.session.specs.Scan.{Gives};
-ghost use Rattle.session.specs.ScriptSteps.{call_on, event_on, event_at};
+ghost use Rattle.script_text.specs.Reading.{event_of};
+ghost use Rattle.script_text.specs.Scan.{Gives};
+ghost use Rattle.script_text.specs.ScriptSteps.{call_on, event_on, event_at};
 
 use crate::scan::{after, name_before, word_before};
 use crate::script::lines::split_line;

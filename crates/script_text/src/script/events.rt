@@ -1,9 +1,9 @@
 //! All events of a script.
 
 ghost use Rattle.std.specs.Prelude.{◌≡◌, map, count_by, IfOk};
-ghost use Rattle.session.specs.Reading.{event_of};
-ghost use Rattle.session.specs.Scan.{Gives};
-ghost use Rattle.session.specs.ScriptSteps.{lines_of, events_on, is_call_value};
+ghost use Rattle.script_text.specs.Reading.{event_of};
+ghost use Rattle.script_text.specs.Scan.{Gives};
+ghost use Rattle.script_text.specs.ScriptSteps.{lines_of, events_on, is_call_value};
 
 use crate::script::event::{EventText, event_line};
 use std::alloc::{AllocError, Global};

@@ -2,10 +2,10 @@
 
 ghost use Rattle.std.specs.Prelude.{◌≡◌, ◌≢◌};
 ghost use Rattle.std.specs.List.{list_all};
-ghost use Rattle.session.specs.Scan.{Gives};
-ghost use Rattle.session.specs.ScriptSteps.{is_file_byte, file_name, client_at};
-ghost use Rattle.session.specs.ScriptSteps.{interface_of, interface_at, rule_of, servant_at};
-ghost use Rattle.session.specs.ScriptSteps.{header_of, header_at};
+ghost use Rattle.script_text.specs.Scan.{Gives};
+ghost use Rattle.script_text.specs.ScriptSteps.{is_file_byte, file_name, client_at};
+ghost use Rattle.script_text.specs.ScriptSteps.{interface_of, interface_at, rule_of, servant_at};
+ghost use Rattle.script_text.specs.ScriptSteps.{header_of, header_at};
 
 use crate::scan::{after, name, name_before, utf8};
 use crate::script::lines::split_line;

@@ -1,8 +1,8 @@
 //! The lines of a script.
 
 ghost use Rattle.std.specs.Prelude.{◌<◌, length, IfSome};
-ghost use Rattle.session.specs.Scan.{Gives};
-ghost use Rattle.session.specs.ScriptSteps.{line_at};
+ghost use Rattle.script_text.specs.Scan.{Gives};
+ghost use Rattle.script_text.specs.ScriptSteps.{line_at};
 
 use crate::scan::find;
 

@@ -2,10 +2,10 @@
 
 ghost use Rattle.std.specs.Prelude.{◌≡◌, ◌≤◌, true, IfSome};
 ghost use Rattle.std.specs.List.{list_all};
-ghost use Rattle.session.specs.Numbers.{natural, natural_within};
-ghost use Rattle.session.specs.Reading.{int_of};
-ghost use Rattle.session.specs.Scan.{Gives};
-ghost use Rattle.session.specs.Words.{is_digit, is_natural, is_number};
+ghost use Rattle.script_text.specs.Numbers.{natural, natural_within};
+ghost use Rattle.script_text.specs.Reading.{int_of};
+ghost use Rattle.script_text.specs.Scan.{Gives};
+ghost use Rattle.script_text.specs.Words.{is_digit, is_natural, is_number};
 
 use crate::scan::utf8;
 

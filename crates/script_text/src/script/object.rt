@@ -2,9 +2,9 @@
 
 ghost use Rattle.std.specs.Prelude.{◌≡◌, ◌<◌, length};
 ghost use Rattle.std.specs.List.{list_all};
-ghost use Rattle.session.specs.Scan.{Gives};
-ghost use Rattle.session.specs.ScriptText.{is_part_byte, is_host_byte};
-ghost use Rattle.session.specs.ScriptSteps.{part, host, id, node, object_of, object_at};
+ghost use Rattle.script_text.specs.Scan.{Gives};
+ghost use Rattle.script_text.specs.ScriptText.{is_part_byte, is_host_byte};
+ghost use Rattle.script_text.specs.ScriptSteps.{part, host, id, node, object_of, object_at};
 
 use crate::scan::{after, word_before};
 use crate::script::lines::split_line;

@@ -7,7 +7,7 @@ ghost use Rattle.session.specs.Services.{IsService, reply_to, response_of};
 ghost use Rattle.session.specs.Tracks.{IsOpened, IsOpenAt, Settles, TakesIn, TakeIn};
 
 use crate::bodies::read_body;
-use crate::pending::Pending;
+use crate::call_state::CallState;
 use crate::rpc_packet::{Response, read_response};
 use crate::service::Service;
 use crate::{CallId, End, GotFate, GotRow};
@@ -18,7 +18,7 @@ use tars_model::Bytes8;
 /// The number of the one link.
 const LINK: u32 = 1;
 
-/// How a reply ends its call. The packet goes by its place among those that were got, from 1.
+/// How a reply ends its call. `packet` is its number among those that were got, from 1.
 fn outcome(
     alloc: Global,
     service: &Service,
@@ -45,8 +45,8 @@ fn outcome(
     })
 }
 
-/// The place of the call that is open under an id.
-fn open_place(calls: &[Pending], id: u32) -> Option<usize>
+/// The index of the call that is open under an id.
+fn open_index(calls: &[CallState], id: u32) -> Option<usize>
     ensures { MatchOption result (list_any (is_open_under id) calls.now ≡ false) (λ k. IsOpenAt id calls.now k) }
 {
     for (k, call) in calls.iter().enumerate() {
@@ -61,7 +61,7 @@ fn open_place(calls: &[Pending], id: u32) -> Option<usize>
 fn settle(
     alloc: Global,
     service: &Service,
-    calls: &mut Vec<Pending>,
+    calls: &mut Vec<CallState>,
     packet: u64,
     response: &Response,
 ) -> Result<GotFate, AllocError>
@@ -71,10 +71,10 @@ fn settle(
         → IfOk result (λ fate. Settles service.now o packet calls.old.items calls.new.items fate) }
 {
     let id = response.id;
-    let Some(place) = open_place(calls.as_slice(), id) else {
+    let Some(index) = open_index(calls.as_slice(), id) else {
         return Ok(GotFate::Late { word: 0 });
     };
-    calls[place].end = Some(outcome(alloc, service, packet, response)?);
+    calls[index].end = Some(outcome(alloc, service, packet, response)?);
     Ok(GotFate::Used { id: CallId(id) })
 }
 
@@ -82,7 +82,7 @@ fn settle(
 fn take_in(
     alloc: Global,
     service: &Service,
-    calls: &mut Vec<Pending>,
+    calls: &mut Vec<CallState>,
     got: &mut Vec<GotRow>,
     packet: Bytes8,
 ) -> Result<(), AllocError>
@@ -101,7 +101,7 @@ fn take_in(
 pub fn take_all_in(
     alloc: Global,
     service: &Service,
-    calls: &mut Vec<Pending>,
+    calls: &mut Vec<CallState>,
     got: &mut Vec<GotRow>,
     mut packets: VecDeque<Bytes8>,
 ) -> Result<(), AllocError>

@@ -1,6 +1,6 @@
 use Rattle.std.proofs.Common.{◌≡◌, drop}
-use Rattle.session.specs.ReportText.{call_with}
-use Rattle.session.proofs.report_lines.links.call_of.Given as goal
+use Rattle.report_lines.specs.ReportText.{call_with}
+use Rattle.report_lines.proofs.links.call_of.Given as goal
 
 -- no row so far has the id
 abbrev pub invariant-loop-row : goal.invariant-loop-row

@@ -1,6 +1,6 @@
 use Rattle.std.proofs.lemmas.Result.{IfOk-weaker}
-use Rattle.session.proofs.ScriptLaws.{is_found, is_only}
-use Rattle.session.proofs.script.read_script.Goals as goal
+use Rattle.script_text.proofs.ScriptLaws.{is_found, is_only}
+use Rattle.script_text.proofs.script.read_script.Goals as goal
 
 pub returns-clause-found : goal.returns-clause-found
 returns-clause-found c = IfOk-weaker c.read_file.result _ _ (is_found c.args.text.now) c.read_file.ensures

@@ -2,7 +2,7 @@ use Rattle.std.proofs.Common.{◌≡◌, ◌<◌, ℕ, zero, suc, List, [], ◌�
 use Rattle.std.proofs.Math.ListN.{set, get_or}
 use Rattle.session.specs.Courses.{closed_call}
 use Rattle.session.proofs.Lists.{same_head, same_tail}
-use Rattle.session.proofs.pending.close_all.Goals as goal
+use Rattle.session.proofs.call_state.close_all.Goals as goal
 
 -- one more element of a list is replaced by its image
 one_more : {A : Type 0} (f : A → A) (init xs : List A) (i : ℕ) (x y : A) → i < length xs → xs ≡ map f (take i init) ++ drop i init

@@ -1,6 +1,6 @@
 use Rattle.std.proofs.Common.{◌≡◌, ◌++◌, take, drop, map}
 use Rattle.session.specs.Courses.{closed_call}
-use Rattle.session.proofs.pending.close_all.Given as goal
+use Rattle.session.proofs.call_state.close_all.Given as goal
 
 -- the calls so far are closed
 abbrev pub invariant-loop-call : goal.invariant-loop-call

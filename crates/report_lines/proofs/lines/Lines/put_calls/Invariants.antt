@@ -1,7 +1,7 @@
 use Rattle.std.proofs.Common.{◌≡◌, ◌++◌, drop}
 use Rattle.std.specs.List.{flat_map}
-use Rattle.session.specs.ReportText.{call_line}
-use Rattle.session.proofs.report_lines.lines.Lines.put_calls.Given as goal
+use Rattle.report_lines.specs.ReportText.{call_line}
+use Rattle.report_lines.proofs.lines.Lines.put_calls.Given as goal
 
 -- the lines so far and those of the rows that are left
 abbrev pub invariant-loop-row : goal.invariant-loop-row

@@ -1,6 +1,6 @@
 use Rattle.std.proofs.Common.{◌≡◌, ◌+◌, ◌++◌, drop}
-use Rattle.session.specs.ReportText.{got_line, numbered_lines}
-use Rattle.session.proofs.report_lines.lines.Lines.put_got_rows.Given as goal
+use Rattle.report_lines.specs.ReportText.{got_line, numbered_lines}
+use Rattle.report_lines.proofs.lines.Lines.put_got_rows.Given as goal
 
 -- the lines so far and those of the rows that are left
 abbrev pub invariant-loop-i : goal.invariant-loop-i

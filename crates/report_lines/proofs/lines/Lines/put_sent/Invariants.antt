@@ -1,7 +1,7 @@
 use Rattle.std.proofs.Common.{◌≡◌, ◌++◌, drop}
 use Rattle.std.specs.List.{flat_map}
-use Rattle.session.specs.ReportText.{sent_lines}
-use Rattle.session.proofs.report_lines.lines.Lines.put_sent.Given as goal
+use Rattle.report_lines.specs.ReportText.{sent_lines}
+use Rattle.report_lines.proofs.lines.Lines.put_sent.Given as goal
 
 -- the lines so far and those of the links that are left
 abbrev pub invariant-loop-link : goal.invariant-loop-link

@@ -1,8 +1,8 @@
 use Rattle.std.proofs.Common.{◌≡◌, ◌++◌, ◌∷◌, [], map, rules}
 use Rattle.std.proofs.lemmas.List.{map_push}
-use Rattle.session.specs.Reading.{event_of}
-use Rattle.session.proofs.EventsLoop.{goes_on, ends, is_done}
-use Rattle.session.proofs.script.events.read_events.Goals as goal
+use Rattle.script_text.specs.Reading.{event_of}
+use Rattle.script_text.proofs.EventsLoop.{goes_on, ends, is_done}
+use Rattle.script_text.proofs.script.events.read_events.Goals as goal
 
 pub returns-in_default : goal.returns-in_default
 returns-in_default c = ends (map event_of c.loop-rest.events.items) c.loop-rest.rest.now _ (search rules) c.in_default.ensures.value c.loop-rest.invariant

@@ -1,6 +1,6 @@
-use Rattle.session.proofs.Texts.{utf8_refuses}
-use Rattle.session.proofs.Numbers.{number_utf8, number_read}
-use Rattle.session.proofs.script.numbers.int_of.Goals as goal
+use Rattle.script_text.proofs.Texts.{utf8_refuses}
+use Rattle.script_text.proofs.Numbers.{number_utf8, number_read}
+use Rattle.script_text.proofs.script.numbers.int_of.Goals as goal
 
 pub returns-in_err-utf8 : goal.returns-in_err-utf8
 returns-in_err-utf8 c = absurd (utf8_refuses c.args.text.now c.in_err-utf8.ensures (number_utf8 c.args.text.now c.requires))

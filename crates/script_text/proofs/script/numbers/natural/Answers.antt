@@ -1,7 +1,7 @@
 use Rattle.std.proofs.Common.{rules}
-use Rattle.session.proofs.Texts.{utf8_refuses}
-use Rattle.session.proofs.Numbers.{natural_utf8, natural_read}
-use Rattle.session.proofs.script.numbers.natural.Goals as goal
+use Rattle.script_text.proofs.Texts.{utf8_refuses}
+use Rattle.script_text.proofs.Numbers.{natural_utf8, natural_read}
+use Rattle.script_text.proofs.script.numbers.natural.Goals as goal
 
 pub returns-in_err-utf8 : goal.returns-in_err-utf8
 returns-in_err-utf8 c = absurd (utf8_refuses c.args.text.now c.in_err-utf8.ensures (natural_utf8 c.args.text.now (search rules)))

@@ -2,14 +2,14 @@ use Rattle.std.proofs.Common.{◌≡◌, ◌<◌, ℕ, suc, true, List, ◌∷�
 use Rattle.std.proofs.Math.ListN.{get_or}
 use Rattle.std.proofs.lemmas.List.{set_split}
 use Rattle.std.specs.List.{list_any}
-use Rattle.session.specs.declared.pending.Pending.{Pending}
-use Rattle.session.specs.declared.report.End.{End}
+use Rattle.session.specs.declared.call_state.CallState.{CallState}
+use Rattle.session_model.specs.declared.report.End.{End}
 use Rattle.session.specs.Courses.{is_open_under, settle}
 use Rattle.session.specs.Tracks.{IsOpenAt}
 use Rattle.session.proofs.Lists.{same_head}
-use Rattle.session.proofs.plan.desk.open_place.Goals as goal
+use Rattle.session.proofs.plan.replies.open_index.Goals as goal
 
-open_at : (id : ℕ) (calls : List Pending) (k : ℕ) (x : Pending) → k < length calls → x ≡ get_or calls k x → true ≡ is_open_under id x
+open_at : (id : ℕ) (calls : List CallState) (k : ℕ) (x : CallState) → k < length calls → x ≡ get_or calls k x → true ≡ is_open_under id x
     → ((end : End) → settle id end calls ≡ take k calls ++ settle id end (drop k calls))
     → list_any (is_open_under id) calls ≡ list_any (is_open_under id) (drop k calls)
     → IsOpenAt id calls k

@@ -1,8 +1,8 @@
 use Rattle.std.proofs.Common.{◌≡◌, ◌++◌, take, drop}
 use Rattle.std.specs.List.{list_any}
-use Rattle.session.specs.declared.report.End.{End}
+use Rattle.session_model.specs.declared.report.End.{End}
 use Rattle.session.specs.Courses.{is_open_under, settle}
-use Rattle.session.proofs.plan.desk.open_place.Given as goal
+use Rattle.session.proofs.plan.replies.open_index.Given as goal
 
 -- no call before this place is open under the id
 abbrev pub invariant-loop-k : goal.invariant-loop-k

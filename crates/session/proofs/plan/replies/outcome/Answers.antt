@@ -1,7 +1,7 @@
 use Rattle.std.proofs.Common.{[], ◌∷◌, ◌∙◌}
 use Rattle.tars_model.specs.declared.value.Value.{Num}
 use Rattle.session.proofs.ServiceLemmas.{sum_replied}
-use Rattle.session.proofs.plan.desk.outcome.Goals as goal
+use Rattle.session.proofs.plan.replies.outcome.Goals as goal
 
 pub read_body-requires-clause-written : goal.read_body-requires-clause-written
 read_body-requires-clause-written c =

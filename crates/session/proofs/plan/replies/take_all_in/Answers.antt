@@ -1,11 +1,11 @@
 use Rattle.std.proofs.Common.{◌≡◌, ℕ, List, [], ◌∷◌, map, refl, sym, ◌∙◌}
 use Rattle.std.specs.List.{AllByRecursion, fold}
-use Rattle.session.specs.declared.link_log.GotRow.{GotRow}
-use Rattle.session.specs.declared.pending.Pending.{Pending}
+use Rattle.session_model.specs.declared.link_log.GotRow.{GotRow}
+use Rattle.session.specs.declared.call_state.CallState.{CallState}
 use Rattle.session.specs.declared.service.Service.{Service}
 use Rattle.session.specs.Courses.{Opened, answer_frame}
-use Rattle.session.specs.Tracks.{IsOpened, Desk, come, TakesIn}
-use Rattle.session.proofs.plan.desk.take_all_in.Goals as goal
+use Rattle.session.specs.Tracks.{IsOpened, CallerState, come, TakesIn}
+use Rattle.session.proofs.plan.replies.take_all_in.Goals as goal
 
 -- the first of the calls whose answers are left, and the others
 pub record IsFirst (s : Service) (os : List Opened) (packet : List ℕ) (rest : List (List ℕ)) : Type 0 where
@@ -29,7 +29,7 @@ take_in-requires-clause-answer c =
     (f.first, f.opened, f.is)
 
 -- one more is taken in
-one_more : (s : Service) (o : Opened) (os rest : List Opened) (calls new_calls : List Pending) (got new_got : List GotRow) (end : Desk)
+one_more : (s : Service) (o : Opened) (os rest : List Opened) (calls new_calls : List CallState) (got new_got : List GotRow) (end : CallerState)
     → rest ≡ o ∷ os → TakesIn s o calls got new_calls new_got
     → fold (come s) (record { calls = calls; got = got }) rest ≡ end
     → fold (come s) (record { calls = new_calls; got = new_got }) os ≡ end

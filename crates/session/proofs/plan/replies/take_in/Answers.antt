@@ -1,10 +1,10 @@
 use Rattle.std.proofs.Common.{arith, ◌≡◌, ℕ, ◌+◌, List, [], ◌∷◌, ◌++◌, ap, ◌∙◌}
-use Rattle.session.specs.declared.link_log.GotFate.{GotFate}
-use Rattle.session.specs.declared.link_log.GotRow.{GotRow}
+use Rattle.session_model.specs.declared.link_log.GotFate.{GotFate}
+use Rattle.session_model.specs.declared.link_log.GotRow.{GotRow}
 use Rattle.session.specs.Courses.{settle, outcome}
 use Rattle.session.specs.Services.{response_of, reply_to}
 use Rattle.session.proofs.ServiceLemmas.{answered}
-use Rattle.session.proofs.plan.desk.take_in.Goals as goal
+use Rattle.session.proofs.plan.replies.take_in.Goals as goal
 
 pub read_response-requires-clause-written : goal.read_response-requires-clause-written
 read_response-requires-clause-written c =
