@@ -5,21 +5,21 @@ use Rattle.std.proofs.lemmas.Bool.{le-leb, lt-leb}
 use Rattle.std.proofs.lemmas.List.{length-map, drop-append-le, map-append}
 use Rattle.std.proofs.lemmas.List.Concat.{flat_map-append}
 use Rattle.tars_model.specs.declared.value.Value.{Value}
-use Rattle.session.specs.declared.link_log.SentRow.{SentRow}
-use Rattle.session.specs.declared.loaded.CallSpec.{CallSpec}
-use Rattle.session.specs.declared.loaded.Event.TheVariants.{Call}
-use Rattle.session.specs.declared.pending.Pending.{Pending}
+use Rattle.session_model.specs.declared.link_log.SentRow.{SentRow}
+use Rattle.session_model.specs.declared.loaded.CallSpec.{CallSpec}
+use Rattle.session_model.specs.declared.loaded.Event.TheVariants.{Call}
+use Rattle.session.specs.declared.call_state.CallState.{CallState}
 use Rattle.session.specs.declared.plan.Plan.{Plan}
-use Rattle.session.specs.declared.report.Refusal.TheVariants as refusal
+use Rattle.session_model.specs.declared.report.Refusal.TheVariants as refusal
 use Rattle.session.specs.Courses.{Course, Opened, opened, opened_among, with_id, closed_call, began, not_sent, open_under, step, sent_frame, answer_frame, joined}
-use Rattle.session.specs.Sessions.{WIDTH, live_node}
+use Rattle.session_model.specs.Sessions.{WIDTH, live_node}
 use Rattle.session.specs.Planned.{sent_row, got_rows}
 use Rattle.session.specs.Services.{AreTwoInts}
 use Rattle.session.specs.Tracks.{Tracks, IsOpened, request_frames}
 use Rattle.session.proofs.Lists.{All-append, front_same}
 
 -- calls that are begun one after another
-pub opened_one_more : (calls : List Pending) (args : List (List Value)) (x : Pending) (a : List Value) → length args ≡ length calls
+pub opened_one_more : (calls : List CallState) (args : List (List Value)) (x : CallState) (a : List Value) → length args ≡ length calls
     → opened_among (calls ++ x ∷ []) (args ++ a ∷ []) ≡ opened_among calls args ++ with_id x.call a x.id
 opened_one_more [] [] x a e = append-nil (with_id x.call a x.id)
 opened_one_more [] (b ∷ args) x a e = absurd (omega arith)
@@ -46,7 +46,7 @@ unfolding began
 began_open c spec h e = rw (lt-leb WIDTH (length (opened c)) h, e) refl
 
 -- with a call that was not sent, the same calls were opened
-same_opened : (c : Course) (spec : CallSpec) (x : Pending) → length c.args ≡ length c.calls → x.id ≡ None
+same_opened : (c : Course) (spec : CallSpec) (x : CallState) → length c.args ≡ length c.calls → x.id ≡ None
     → opened_among (c.calls ++ x ∷ []) (c.args ++ spec.args ∷ []) ≡ opened c
 same_opened c spec x e none =
     opened_one_more c.calls c.args x spec.args e ∙ ap (λ id. opened c ++ with_id x.call spec.args id) none ∙ append-nil (opened c)
@@ -54,7 +54,7 @@ same_opened c spec x e none =
 one_longer : {A B : Type 0} (xs : List A) (ys : List B) (x : A) (y : B) → length xs ≡ length ys → length (xs ++ x ∷ []) ≡ length (ys ++ y ∷ [])
 one_longer xs ys x y e = simp length-append (omega arith)
 
-refused_tracks : (p q : Plan) (c : Course) (spec : CallSpec) (x : Pending) → Tracks p c → x.id ≡ None → closed_call x ≡ x → q.calls.items ≡ p.calls.items ++ x ∷ []
+refused_tracks : (p q : Plan) (c : Course) (spec : CallSpec) (x : CallState) → Tracks p c → x.id ≡ None → closed_call x ≡ x → q.calls.items ≡ p.calls.items ++ x ∷ []
     → Tracks (record p { calls = q.calls }) (record c { calls = c.calls ++ x ∷ []; args = c.args ++ spec.args ∷ [] })
 refused_tracks p q c spec x t none ended calls =
     let e = same_opened c spec x t.args_are none in
@@ -81,24 +81,24 @@ refused_tracks p q c spec x t none ended calls =
       got_is = t.got_is ∙ ap (λ os. got_rows (take t.answers (map (answer_frame p.service) os)) c.fates) (sym e);
     }
 
-begun : (p q : Plan) (c : Course) (spec : CallSpec) (x : Pending) → began c spec ≡ x
+begun : (p q : Plan) (c : Course) (spec : CallSpec) (x : CallState) → began c spec ≡ x
     → Tracks q (record c { calls = c.calls ++ x ∷ []; args = c.args ++ spec.args ∷ [] }) → Tracks q (step p.service c (Call spec))
 begun p q c spec x e t =
-    subst (λ (call : Pending). Tracks q (record c { calls = c.calls ++ call ∷ []; args = c.args ++ spec.args ∷ [] })) (sym e) t
+    subst (λ (call : CallState). Tracks q (record c { calls = c.calls ++ call ∷ []; args = c.args ++ spec.args ∷ [] })) (sym e) t
 
-pub full_tracks : (p q : Plan) (c : Course) (spec : CallSpec) (x : Pending) → Tracks p c → WIDTH ≤ length p.sent.items
+pub full_tracks : (p q : Plan) (c : Course) (spec : CallSpec) (x : CallState) → Tracks p c → WIDTH ≤ length p.sent.items
     → x ≡ not_sent spec None refusal.Full → q.calls.items ≡ p.calls.items ++ x ∷ []
     → Tracks (record p { calls = q.calls }) (step p.service c (Call spec))
 full_tracks p q c spec x t h is calls =
     begun p (record p { calls = q.calls }) c spec x (began_full c spec (let e = sent_len p c t in omega arith) ∙ sym is)
-    (refused_tracks p q c spec x t (ap (λ (y : Pending). y.id) is) (rw is refl) calls)
+    (refused_tracks p q c spec x t (ap (λ (y : CallState). y.id) is) (rw is refl) calls)
 
-pub closed_tracks : (p q : Plan) (c : Course) (spec : CallSpec) (x : Pending) → Tracks p c → length p.sent.items < WIDTH → p.closed ≡ true
+pub closed_tracks : (p q : Plan) (c : Course) (spec : CallSpec) (x : CallState) → Tracks p c → length p.sent.items < WIDTH → p.closed ≡ true
     → x ≡ not_sent spec live_node (refusal.Closed 0) → q.calls.items ≡ p.calls.items ++ x ∷ []
     → Tracks (record p { calls = q.calls }) (step p.service c (Call spec))
 closed_tracks p q c spec x t h closed is calls =
     begun p (record p { calls = q.calls }) c spec x (began_closed c spec (let e = sent_len p c t in omega arith) (sym t.closed_is ∙ closed) ∙ sym is)
-    (refused_tracks p q c spec x t (ap (λ (y : Pending). y.id) is) (rw is refl) calls)
+    (refused_tracks p q c spec x t (ap (λ (y : CallState). y.id) is) (rw is refl) calls)
 
 -- A call that is opened.
 
@@ -156,7 +156,7 @@ open_tracks p q c spec t row h not_closed ints is calls sent to_node =
     }
 
 -- a call that is opened under the number of those opened before it, and one more
-pub opened_tracks : (p q : Plan) (c : Course) (spec : CallSpec) (t : Tracks p c) (row : SentRow) (call : Pending) (id : ℕ)
+pub opened_tracks : (p q : Plan) (c : Course) (spec : CallSpec) (t : Tracks p c) (row : SentRow) (call : CallState) (id : ℕ)
     → length p.sent.items < WIDTH → p.closed ≡ false → AreTwoInts spec.args → id ≡ length p.sent.items + 1
     → row ≡ sent_row p.service (record { call = spec.call; args = spec.args; id = id })
     → call ≡ open_under spec id

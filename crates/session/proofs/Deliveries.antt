@@ -1,40 +1,40 @@
 -- Taking in answers changes no call but by its end.
 use Rattle.std.proofs.Common.{◌≡◌, ◌+◌, ℕ, suc, Bool, true, false, cond, Option, None, Some, List, [], ◌∷◌, ◌++◌, length, map, refl, ap, ◌∙◌, arith, length-append, append_assoc, append-nil}
 use Rattle.std.specs.Option.{is_none}
-use Rattle.session.specs.declared.report.End.TheVariants.{Closed}
+use Rattle.session_model.specs.declared.report.End.TheVariants.{Closed}
 use Rattle.std.specs.List.{fold}
 use Rattle.tars_model.specs.declared.value.Value.{Value}
-use Rattle.session.specs.declared.link_log.GotFate.{GotFate}
-use Rattle.session.specs.declared.pending.Pending.{Pending}
-use Rattle.session.specs.declared.report.End.{End}
+use Rattle.session_model.specs.declared.link_log.GotFate.{GotFate}
+use Rattle.session.specs.declared.call_state.CallState.{CallState}
+use Rattle.session_model.specs.declared.report.End.{End}
 use Rattle.session.specs.declared.service.Service.{Service}
 use Rattle.session.specs.Courses.{Course, Opened, opened, opened_among, with_id, is_open_under, settle, outcome, fate_of, got, answer_frame, closed_call}
 use Rattle.session.specs.Planned.{got_rows}
 use Rattle.session.specs.Services.{reply_to}
-use Rattle.session.specs.Tracks.{Desk, come}
+use Rattle.session.specs.Tracks.{CallerState, come}
 
 -- A settled or closed call was opened as before.
-abbrev SameCall : Pending → Pending → Type 0
+abbrev SameCall : CallState → CallState → Type 0
 SameCall a b = (a.call ≡ b.call) × (a.id ≡ b.id)
 
-settle_one : (id : ℕ) (end : End) (call : Pending) (calls : List Pending) (args : List (List Value)) (b : Bool)
+settle_one : (id : ℕ) (end : End) (call : CallState) (calls : List CallState) (args : List (List Value)) (b : Bool)
     → opened_among (settle id end calls) args ≡ opened_among calls args
     → (x : List Value)
     → opened_among (cond b (record call { end = Some end } ∷ calls) (call ∷ settle id end calls)) (x ∷ args) ≡ opened_among (call ∷ calls) (x ∷ args)
 settle_one id end call calls args true rest x = refl
 settle_one id end call calls args false rest x = ap (λ os. with_id call.call x call.id ++ os) rest
 
-settle_none_args : (id : ℕ) (end : End) (call : Pending) (calls : List Pending) (b : Bool)
+settle_none_args : (id : ℕ) (end : End) (call : CallState) (calls : List CallState) (b : Bool)
     → opened_among (cond b (record call { end = Some end } ∷ calls) (call ∷ settle id end calls)) [] ≡ []
 settle_none_args id end call calls true = refl
 settle_none_args id end call calls false = refl
 
-pub opened-settle : (id : ℕ) (end : End) (calls : List Pending) (args : List (List Value)) → opened_among (settle id end calls) args ≡ opened_among calls args
+pub opened-settle : (id : ℕ) (end : End) (calls : List CallState) (args : List (List Value)) → opened_among (settle id end calls) args ≡ opened_among calls args
 opened-settle id end [] args = refl
 opened-settle id end (call ∷ calls) [] = settle_none_args id end call calls (is_open_under id call)
 opened-settle id end (call ∷ calls) (x ∷ args) = settle_one id end call calls args (is_open_under id call) (opened-settle id end calls args) x
 
-pub length-settle : (id : ℕ) (end : End) (calls : List Pending) → length (settle id end calls) ≡ length calls
+pub length-settle : (id : ℕ) (end : End) (calls : List CallState) → length (settle id end calls) ≡ length calls
 length-settle id end [] = refl
 length-settle id end (call ∷ calls) = go (is_open_under id call) (length-settle id end calls)
   where
@@ -43,14 +43,14 @@ length-settle id end (call ∷ calls) = go (is_open_under id call) (length-settl
     go true rest = refl
     go false rest = ap suc rest
 
-closed_as : (call : Pending) (b : Bool) → SameCall (cond b (record call { end = Some Closed }) call) call
+closed_as : (call : CallState) (b : Bool) → SameCall (cond b (record call { end = Some Closed }) call) call
 closed_as call true = (refl, refl)
 closed_as call false = (refl, refl)
 
-same_opened : (a b : Pending) (x : List Value) → SameCall a b → with_id a.call x a.id ≡ with_id b.call x b.id
+same_opened : (a b : CallState) (x : List Value) → SameCall a b → with_id a.call x a.id ≡ with_id b.call x b.id
 same_opened a b x h = cc
 
-pub opened-closed : (calls : List Pending) (args : List (List Value)) → opened_among (map closed_call calls) args ≡ opened_among calls args
+pub opened-closed : (calls : List CallState) (args : List (List Value)) → opened_among (map closed_call calls) args ≡ opened_among calls args
 opened-closed [] args = refl
 opened-closed (call ∷ calls) [] = refl
 opened-closed (call ∷ calls) (x ∷ args) =
@@ -58,7 +58,7 @@ opened-closed (call ∷ calls) (x ∷ args) =
     ∙ ap (λ os. with_id call.call x call.id ++ os) (opened-closed calls args)
 
 -- Behind a close no call is open: a reply settles none, and another close ends none.
-settle-ended : (id : ℕ) (end : End) (calls : List Pending) → map closed_call calls ≡ calls → map closed_call (settle id end calls) ≡ settle id end calls
+settle-ended : (id : ℕ) (end : End) (calls : List CallState) → map closed_call calls ≡ calls → map closed_call (settle id end calls) ≡ settle id end calls
 settle-ended id end [] e = refl
 settle-ended id end (call ∷ calls) e = go (is_open_under id call) (settle-ended id end calls cc)
   where
@@ -67,14 +67,14 @@ settle-ended id end (call ∷ calls) e = go (is_open_under id call) (settle-ende
     go true rest = ap (λ cs. record call { end = Some end } ∷ cs) cc
     go false rest = cc
 
-closed_twice : (call : Pending) → closed_call (closed_call call) ≡ closed_call call
+closed_twice : (call : CallState) → closed_call (closed_call call) ≡ closed_call call
 closed_twice call = go call.end
   where
     go : (end : Option End) → closed_call (closed_call (record call { end = end })) ≡ closed_call (record call { end = end })
     go None = refl
     go (Some end) = refl
 
-pub all_closed_twice : (calls : List Pending) → map closed_call (map closed_call calls) ≡ map closed_call calls
+pub all_closed_twice : (calls : List CallState) → map closed_call (map closed_call calls) ≡ map closed_call calls
 all_closed_twice [] = refl
 all_closed_twice (call ∷ calls) = cc (closed_twice call, all_closed_twice calls)
 
@@ -91,11 +91,11 @@ got_rows-append [] (g ∷ fs) p f e = absurd (omega arith)
 got_rows-append (q ∷ ps) [] p f e = absurd (omega arith)
 got_rows-append (q ∷ ps) (g ∷ fs) p f e = ap (λ rows. record { packet = q; fate = g } ∷ rows) (got_rows-append ps fs p f (omega arith))
 
--- The answers to these calls come: what the desk has afterwards is what the course says.
+-- The answers to these calls come: what the caller has afterwards is what the course says.
 pub record Comes (s : Service) (c : Course) (ps : List (List ℕ)) (os : List Opened) : Type 0 where
   pub end : Course
   pub end_is : fold (got s) c os ≡ end
-  pub desk : fold (come s) (record { calls = c.calls; got = got_rows ps c.fates }) os ≡ record { calls = end.calls; got = got_rows (ps ++ map (answer_frame s) os) end.fates }
+  pub caller : fold (come s) (record { calls = c.calls; got = got_rows ps c.fates }) os ≡ record { calls = end.calls; got = got_rows (ps ++ map (answer_frame s) os) end.fates }
   pub rest : end ≡ record c { calls = end.calls; fates = end.fates }
   pub opened_is : opened end ≡ opened c
   pub fates_len : length end.fates ≡ length c.fates + length os
@@ -135,8 +135,8 @@ others_came : (s : Service) (c : Course) (ps : List (List ℕ)) (o : Opened) (os
 others_came s c ps o os e r = record {
   end = r.end;
   end_is = r.end_is;
-  desk =
-      ap (λ (d : Desk). fold (come s) d os) (one_came s c ps o e) ∙ r.desk
+  caller =
+      ap (λ (d : CallerState). fold (come s) d os) (one_came s c ps o e) ∙ r.caller
       ∙ ap (λ qs. record { calls = r.end.calls; got = got_rows qs r.end.fates }) (append_assoc ps (answer_frame s o ∷ []) (map (answer_frame s) os));
   rest = got_rest s c r.end o r.rest;
   opened_is = r.opened_is ∙ got_opened s c o;
@@ -149,7 +149,7 @@ pub comes : (s : Service) (c : Course) (ps : List (List ℕ)) (os : List Opened)
 comes s c ps [] e = record {
   end = c;
   end_is = refl;
-  desk = rw (append-nil ps) refl;
+  caller = rw (append-nil ps) refl;
   rest = refl;
   opened_is = refl;
   fates_len = omega arith;

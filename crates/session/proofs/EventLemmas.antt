@@ -4,8 +4,8 @@ use Rattle.std.specs.Prelude.{slice_index_or}
 use Rattle.std.specs.List.{AllByRecursion}
 use Rattle.std.proofs.lemmas.List.{take_all}
 use Rattle.std.proofs.lemmas.List.Sums.{fold_more}
-use Rattle.session.specs.declared.loaded.Event.{Event}
-use Rattle.session.specs.declared.loaded.Loaded.{Loaded}
+use Rattle.session_model.specs.declared.loaded.Event.{Event}
+use Rattle.session_model.specs.declared.loaded.Loaded.{Loaded}
 use Rattle.session.specs.declared.plan.Plan.{Plan}
 use Rattle.session.specs.declared.service.Service.{Service}
 use Rattle.session.specs.Courses.{Course, start, step, after_all}

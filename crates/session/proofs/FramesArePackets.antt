@@ -16,7 +16,7 @@ use Rattle.session.specs.declared.service.Service.{Service}
 use Rattle.session.specs.RpcPackets.{IsSendable, IsAnswerable, request_members, request_values, request_frame, response_members, response_values, response_frame}
 use Rattle.session.specs.Courses.{Opened, sent_frame, answer_frame}
 use Rattle.session.specs.Services.{IsService, request_of, response_of}
-use Rattle.session.specs.Replies.{argument}
+use Rattle.session_model.specs.Replies.{argument}
 use Rattle.session.specs.Tracks.{IsOpened}
 use Rattle.session.proofs.PacketLengths.{request_short, response_short}
 use Rattle.session.proofs.ServiceLemmas.{request_sendable, response_answerable}

@@ -2,54 +2,54 @@
 use Rattle.std.proofs.Common.{◌≡◌, ◌<◌, ◌≤◌, ◌+◌, ℕ, true, false, Some, None, List, [], ◌∷◌, ◌++◌, length, drop, map, eqb, refl, sym, subst, arith, append-nil, eq-eqb, ne_eqb}
 use Rattle.std.specs.List.{AllByRecursion, list_any}
 use Rattle.tars_model.specs.declared.value.Value.{Value}
-use Rattle.session.specs.declared.link_log.GotFate.{GotFate}
-use Rattle.session.specs.declared.link_log.GotFate.TheVariants.{Used, Late}
-use Rattle.session.specs.declared.loaded.CallSpec.{CallSpec}
-use Rattle.session.specs.declared.pending.Pending.{Pending}
-use Rattle.session.specs.declared.report.End.{End}
-use Rattle.session.specs.declared.report.End.TheVariants.{Closed}
-use Rattle.session.specs.declared.report.Refusal.TheVariants as refusal
+use Rattle.session_model.specs.declared.link_log.GotFate.{GotFate}
+use Rattle.session_model.specs.declared.link_log.GotFate.TheVariants.{Used, Late}
+use Rattle.session_model.specs.declared.loaded.CallSpec.{CallSpec}
+use Rattle.session.specs.declared.call_state.CallState.{CallState}
+use Rattle.session_model.specs.declared.report.End.{End}
+use Rattle.session_model.specs.declared.report.End.TheVariants.{Closed}
+use Rattle.session_model.specs.declared.report.Refusal.TheVariants as refusal
 use Rattle.session.specs.declared.service.Service.{Service}
 use Rattle.session.specs.Courses.{Opened, opened_among, with_id, not_sent, open_under, is_open_under, settle, outcome, fate_of, closed_call}
-use Rattle.session.specs.Sessions.{WIDTH, live_node}
+use Rattle.session_model.specs.Sessions.{WIDTH, live_node}
 use Rattle.session.specs.Services.{AreTwoInts, reply_to}
 use Rattle.session.specs.Tracks.{IsOpened}
 use Rattle.session.specs.Legal.{Scripted}
 
 -- a call that was sent and has ended
-abbrev pub ended : CallSpec → ℕ → End → Pending
+abbrev pub ended : CallSpec → ℕ → End → CallState
 ended spec id end = record (open_under spec id) { end = Some end }
 
 -- Calls after so many that were sent, with what became of the packets that came for them.
-pub data IsSound (s : Service) : ℕ → List Scripted → List Pending → List (List Value) → List GotFate → Type 0 where
+pub data IsSound (s : Service) : ℕ → List Scripted → List CallState → List (List Value) → List GotFate → Type 0 where
   none : {n : ℕ} → IsSound s n [] [] [] []
   full :
-      {n : ℕ} {x : Scripted} {xs : List Scripted} {calls : List Pending} {args : List (List Value)} {fates : List GotFate}
+      {n : ℕ} {x : Scripted} {xs : List Scripted} {calls : List CallState} {args : List (List Value)} {fates : List GotFate}
       → WIDTH ≤ n → IsSound s n xs calls args fates
       → IsSound s n (x ∷ xs) (not_sent x.spec None refusal.Full ∷ calls) (x.spec.args ∷ args) fates
   late :
-      {n : ℕ} {x : Scripted} {xs : List Scripted} {calls : List Pending} {args : List (List Value)} {fates : List GotFate}
+      {n : ℕ} {x : Scripted} {xs : List Scripted} {calls : List CallState} {args : List (List Value)} {fates : List GotFate}
       → n < WIDTH → x.closed ≡ true → IsSound s n xs calls args fates
       → IsSound s n (x ∷ xs) (not_sent x.spec live_node (refusal.Closed 0) ∷ calls) (x.spec.args ∷ args) fates
   waits :
-      {n : ℕ} {x : Scripted} {xs : List Scripted} {calls : List Pending} {args : List (List Value)}
+      {n : ℕ} {x : Scripted} {xs : List Scripted} {calls : List CallState} {args : List (List Value)}
       → n < WIDTH → x.closed ≡ false → IsSound s (n + 1) xs calls args []
       → IsSound s n (x ∷ xs) (open_under x.spec (n + 1) ∷ calls) (x.spec.args ∷ args) []
   stopped :
-      {n : ℕ} {x : Scripted} {xs : List Scripted} {calls : List Pending} {args : List (List Value)}
+      {n : ℕ} {x : Scripted} {xs : List Scripted} {calls : List CallState} {args : List (List Value)}
       → n < WIDTH → x.closed ≡ false → IsSound s (n + 1) xs calls args []
       → IsSound s n (x ∷ xs) (ended x.spec (n + 1) Closed ∷ calls) (x.spec.args ∷ args) []
   missed :
-      {n : ℕ} {x : Scripted} {xs : List Scripted} {calls : List Pending} {args : List (List Value)} {fates : List GotFate}
+      {n : ℕ} {x : Scripted} {xs : List Scripted} {calls : List CallState} {args : List (List Value)} {fates : List GotFate}
       → n < WIDTH → x.closed ≡ false → IsSound s (n + 1) xs calls args fates
       → IsSound s n (x ∷ xs) (ended x.spec (n + 1) Closed ∷ calls) (x.spec.args ∷ args) (Late 0 ∷ fates)
   replied :
-      {n : ℕ} {x : Scripted} {xs : List Scripted} {calls : List Pending} {args : List (List Value)} {fates : List GotFate}
+      {n : ℕ} {x : Scripted} {xs : List Scripted} {calls : List CallState} {args : List (List Value)} {fates : List GotFate}
       → n < WIDTH → x.closed ≡ false → IsSound s (n + 1) xs calls args fates
       → IsSound s n (x ∷ xs) (ended x.spec (n + 1) (outcome (n + 1) (reply_to s x.spec.args)) ∷ calls) (x.spec.args ∷ args) (Used (record { 0 = n + 1 }) ∷ fates)
 
 -- what a close leaves
-pub closes : {s : Service} {n : ℕ} {xs : List Scripted} {calls : List Pending} {args : List (List Value)} {fates : List GotFate}
+pub closes : {s : Service} {n : ℕ} {xs : List Scripted} {calls : List CallState} {args : List (List Value)} {fates : List GotFate}
     → IsSound s n xs calls args fates → IsSound s n xs (map closed_call calls) args fates
 closes none = none
 closes (full h r) = full h (closes r)
@@ -60,8 +60,8 @@ closes (missed h e r) = missed h e (closes r)
 closes (replied h e r) = replied h e (closes r)
 
 -- one more call, after those that were sent
-pub one_more : {s : Service} {n : ℕ} {xs : List Scripted} {calls : List Pending} {args : List (List Value)} {fates : List GotFate}
-    (y : Scripted) (call : Pending) (m : ℕ) → IsSound s n xs calls args fates → m ≡ n + length (opened_among calls args)
+pub one_more : {s : Service} {n : ℕ} {xs : List Scripted} {calls : List CallState} {args : List (List Value)} {fates : List GotFate}
+    (y : Scripted) (call : CallState) (m : ℕ) → IsSound s n xs calls args fates → m ≡ n + length (opened_among calls args)
     → IsSound s m (y ∷ []) (call ∷ []) (y.spec.args ∷ []) []
     → IsSound s n (xs ++ y ∷ []) (calls ++ call ∷ []) (args ++ y.spec.args ∷ []) fates
 one_more {s = s} {n = n} y call m none e last = subst (λ (k : ℕ). IsSound s k (y ∷ []) (call ∷ []) (y.spec.args ∷ []) []) (omega arith) last
@@ -72,8 +72,8 @@ one_more y call m (stopped h c r) e last = stopped h c (one_more y call m r (ome
 one_more y call m (missed h c r) e last = missed h c (one_more y call m r (omega arith) last)
 one_more y call m (replied h c r) e last = replied h c (one_more y call m r (omega arith) last)
 
-pub opened_more : {s : Service} {n : ℕ} {xs : List Scripted} {calls : List Pending} {args : List (List Value)} {fates : List GotFate}
-    (call : Pending) (a : List Value) → IsSound s n xs calls args fates
+pub opened_more : {s : Service} {n : ℕ} {xs : List Scripted} {calls : List CallState} {args : List (List Value)} {fates : List GotFate}
+    (call : CallState) (a : List Value) → IsSound s n xs calls args fates
     → opened_among (calls ++ call ∷ []) (args ++ a ∷ []) ≡ opened_among calls args ++ with_id call.call a call.id
 opened_more call a none = append-nil (with_id call.call a call.id)
 opened_more call a (full h r) = opened_more call a r
@@ -90,7 +90,7 @@ apart_below : (a b : ℕ) → a < b → eqb a b ≡ false
 apart_below a b h = ne_eqb a b (λ (q : a ≡ b). omega arith)
 
 -- calls that were sent later have other ids
-pub not_later : {s : Service} {n : ℕ} {xs : List Scripted} {calls : List Pending} {args : List (List Value)} {fates : List GotFate}
+pub not_later : {s : Service} {n : ℕ} {xs : List Scripted} {calls : List CallState} {args : List (List Value)} {fates : List GotFate}
     (m : ℕ) (end : End) → IsSound s n xs calls args fates → m ≤ n
     → (settle m end calls ≡ calls) × (list_any (is_open_under m) calls ≡ false)
 not_later m end none le = (refl, refl)
@@ -113,26 +113,26 @@ first_is : {A : Type 0} (x y : A) (xs ys : List A) → x ∷ xs ≡ y ∷ ys →
 first_is x y xs ys e = cc
 
 -- the next packet comes for this call, under this id
-abbrev pub Settled : Service → ℕ → List Scripted → List Pending → List (List Value) → List GotFate → ℕ → Opened → Type 0
+abbrev pub Settled : Service → ℕ → List Scripted → List CallState → List (List Value) → List GotFate → ℕ → Opened → Type 0
 Settled s n xs calls args fates m o =
     (o.id ≡ m) × IsSound s n xs (settle m (outcome m (reply_to s o.args)) calls) args (fates ++ fate_of m calls ∷ [])
 
 abbrev pub opened_as : Scripted → ℕ → Opened
 opened_as x id = record { call = x.spec.call; args = x.spec.args; id = id }
 
-waits_settled : {s : Service} {n : ℕ} {x : Scripted} {xs : List Scripted} {calls : List Pending} {args : List (List Value)}
+waits_settled : {s : Service} {n : ℕ} {x : Scripted} {xs : List Scripted} {calls : List CallState} {args : List (List Value)}
     → n < WIDTH → x.closed ≡ false → IsSound s (n + 1) xs calls args []
     → Settled s n (x ∷ xs) (open_under x.spec (n + 1) ∷ calls) (x.spec.args ∷ args) [] (n + 1) (opened_as x (n + 1))
 waits_settled {n = n} h c r = (refl, rw (eq-eqb (n + 1) (n + 1) refl) (replied h c r))
 
-stopped_settled : {s : Service} {n : ℕ} {x : Scripted} {xs : List Scripted} {calls : List Pending} {args : List (List Value)}
+stopped_settled : {s : Service} {n : ℕ} {x : Scripted} {xs : List Scripted} {calls : List CallState} {args : List (List Value)}
     → n < WIDTH → x.closed ≡ false → IsSound s (n + 1) xs calls args []
     → Settled s n (x ∷ xs) (ended x.spec (n + 1) Closed ∷ calls) (x.spec.args ∷ args) [] (n + 1) (opened_as x (n + 1))
 stopped_settled {s = s} {n = n} {x = x} h c r =
     let p = not_later (n + 1) (outcome (n + 1) (reply_to s x.spec.args)) r (omega arith) in
     (refl, rw (eq-eqb (n + 1) (n + 1) refl) (rw (p.0, p.1) (missed h c r)))
 
-pub settles : {s : Service} {n : ℕ} {xs : List Scripted} {calls : List Pending} {args : List (List Value)} {fates : List GotFate}
+pub settles : {s : Service} {n : ℕ} {xs : List Scripted} {calls : List CallState} {args : List (List Value)} {fates : List GotFate}
     (m : ℕ) (o : Opened) (more : List Opened) → IsSound s n xs calls args fates → m ≡ n + length fates + 1
     → drop (length fates) (opened_among calls args) ≡ o ∷ more → Settled s n xs calls args fates m o
 settles m o more none e d = absurd (cc)
@@ -156,7 +156,7 @@ settles {n = n} m o more (replied h c r) e d =
     (p.0, rw (apart_below (n + 1) m (omega arith)) (replied h c p.1))
 
 -- each call that was sent is one of a plan's
-pub opened_are : {s : Service} {n : ℕ} {xs : List Scripted} {calls : List Pending} {args : List (List Value)} {fates : List GotFate}
+pub opened_are : {s : Service} {n : ℕ} {xs : List Scripted} {calls : List CallState} {args : List (List Value)} {fates : List GotFate}
     → IsSound s n xs calls args fates → AllByRecursion (λ (x : Scripted). AreTwoInts x.spec.args) xs
     → AllByRecursion IsOpened (opened_among calls args)
 opened_are none ints = tt

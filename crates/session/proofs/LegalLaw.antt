@@ -3,24 +3,24 @@ use Rattle.std.proofs.Common.{◌≡◌, ◌<◌, ◌≤◌, ◌↔◌, ◌+◌,
 use Rattle.std.specs.List.{AllByRecursion, filter_map}
 use Rattle.std.proofs.lemmas.List.{take-map, take-take}
 use Rattle.wire_words.specs.Packets.{packets_of}
-use Rattle.session.specs.declared.link_log.GotFate.{GotFate}
-use Rattle.session.specs.declared.link_log.GotRow.{GotRow}
+use Rattle.session_model.specs.declared.link_log.GotFate.{GotFate}
+use Rattle.session_model.specs.declared.link_log.GotRow.{GotRow}
 use Rattle.tars_model.specs.declared.value.Value.{Value}
-use Rattle.session.specs.declared.loaded.Loaded.{Loaded}
-use Rattle.session.specs.declared.loaded.Rule.{Rule}
-use Rattle.session.specs.declared.loaded.Rule.TheVariants.{Add}
-use Rattle.session.specs.declared.pending.Pending.{Pending}
-use Rattle.session.specs.declared.report.CallId.{CallId}
-use Rattle.session.specs.declared.report.End.TheVariants.{Closed, Refused}
-use Rattle.session.specs.declared.report.Refusal.TheVariants as refusal
-use Rattle.session.specs.declared.report.Row.{Row}
+use Rattle.session_model.specs.declared.loaded.Loaded.{Loaded}
+use Rattle.session_model.specs.declared.loaded.Rule.{Rule}
+use Rattle.session_model.specs.declared.loaded.Rule.TheVariants.{Add}
+use Rattle.session.specs.declared.call_state.CallState.{CallState}
+use Rattle.session_model.specs.declared.report.CallId.{CallId}
+use Rattle.session_model.specs.declared.report.End.TheVariants.{Closed, Refused}
+use Rattle.session_model.specs.declared.report.Refusal.TheVariants as refusal
+use Rattle.session_model.specs.declared.report.Row.{Row}
 use Rattle.session.specs.declared.service.Service.{Service}
 use Rattle.session.specs.Courses.{Course, Opened, opened, answer_frame, joined, received, after_all}
-use Rattle.session.specs.Replies.{reply_by}
-use Rattle.session.specs.Sessions.{WIDTH, rule_of}
+use Rattle.session_model.specs.Replies.{reply_by}
+use Rattle.session_model.specs.Sessions.{WIDTH, rule_of}
 use Rattle.session.specs.Planned.{row_of, sent_row, got_rows, reported_step, report_of, link_log, planned}
 use Rattle.session.specs.Services.{IsService, left_of, right_of, reply_to, service_of}
-use Rattle.session.specs.ScriptText.{EventText, call, serve, work, deliver, close}
+use Rattle.script_text.specs.ScriptText.{EventText, call, serve, work, deliver, close}
 use Rattle.session.specs.Loading.{IsLoaded, events_from}
 use Rattle.session.specs.Tracks.{IsOpened}
 use Rattle.session.specs.Legal.{Scripted, scripted, scripted_after, sent_before, IsUsedId, IsReplied, IsRefusal, Says, pick_of, packet_of, picked_of, IsSentAs, IsRowAt, AreRefused, AreSent, AreReplied, IsLegal}
@@ -32,7 +32,7 @@ use Rattle.session.proofs.LegalCourses.{opened_are}
 use Rattle.session.proofs.LegalSteps.{IsSoundCourse, run_sound}
 use Rattle.session.proofs.LegalRows.{IsAt, at, headings, scripted_calls, ids_rise, calls_sent, full_exactly, late_exactly, unsent_exactly, picked_exactly, rule_exactly, sent_exactly, picks_same, reports_same}
 use Rattle.session.proofs.LegalReplies.{all_got_rows, used_named, closed_exactly, replied_as}
-use Rattle.session.proofs.Readers.{some_is}
+use Rattle.script_text.proofs.Readers.{some_is}
 
 -- each call is of the one function
 calls_first : (closed : Bool) (n : ℕ) (es : List EventText) → AllByRecursion (λ (x : Scripted). x.spec.func ≡ 0) (scripted_after closed (events_from n es))
@@ -66,14 +66,14 @@ got_whole s xs c h t =
 
 -- The facts, row by row.
 
-full_at : {s : Service} {xs : List Scripted} {k : ℕ} {calls : List Pending} {os : List Opened} {all : List GotFate} {row : Row}
+full_at : {s : Service} {xs : List Scripted} {k : ℕ} {calls : List CallState} {os : List Opened} {all : List GotFate} {row : Row}
     → IsAt s xs 0 k calls os all row → (row.end ≡ Refused refusal.Full) ↔ (WIDTH ≤ sent_before (map row_of calls) k)
 full_at {k = k} {calls = calls} p =
     let count : p.m ≡ sent_before (map row_of calls) k = (let c = p.count in omega arith) in
     subst (λ (r : Row). (r.end ≡ Refused refusal.Full) ↔ (WIDTH ≤ sent_before (map row_of calls) k)) (sym p.row_is)
     (subst (λ (m : ℕ). ((row_of p.call).end ≡ Refused refusal.Full) ↔ (WIDTH ≤ m)) count (full_exactly p.is))
 
-late_at : {s : Service} {xs : List Scripted} {k : ℕ} {calls : List Pending} {os : List Opened} {all : List GotFate} {row : Row}
+late_at : {s : Service} {xs : List Scripted} {k : ℕ} {calls : List CallState} {os : List Opened} {all : List GotFate} {row : Row}
     (x : Scripted) → slice_get xs k ≡ Some x → IsAt s xs 0 k calls os all row
     → (row.end ≡ Refused (refusal.Closed 0)) ↔ ((x.closed ≡ true) × (sent_before (map row_of calls) k < WIDTH))
 late_at {k = k} {calls = calls} x e p =
@@ -84,12 +84,12 @@ late_at {k = k} {calls = calls} x e p =
     (subst (λ (m : ℕ). ((row_of p.call).end ≡ Refused (refusal.Closed 0)) ↔ ((p.x.closed ≡ true) × (m < WIDTH))) count (late_exactly p.is)))
 
 -- A fact on a call is one on its row.
-on_row : {s : Service} {xs : List Scripted} {n k : ℕ} {calls : List Pending} {os : List Opened} {all : List GotFate} {row : Row}
+on_row : {s : Service} {xs : List Scripted} {n k : ℕ} {calls : List CallState} {os : List Opened} {all : List GotFate} {row : Row}
     (P : Row → Type 0) (p : IsAt s xs n k calls os all row) → P (row_of p.call) → P row
 on_row P p h = subst P (sym p.row_is) h
 
 -- a place has one scripted call
-one_call : {s : Service} {xs : List Scripted} {n k : ℕ} {calls : List Pending} {os : List Opened} {all : List GotFate} {row : Row}
+one_call : {s : Service} {xs : List Scripted} {n k : ℕ} {calls : List CallState} {os : List Opened} {all : List GotFate} {row : Row}
     (x : Scripted) (p : IsAt s xs n k calls os all row) → slice_get xs k ≡ Some x → p.x ≡ x
 one_call x p e = some_is p.x x (sym p.x_at ∙ e)
 

@@ -1,24 +1,24 @@
 -- What the rows of a sound course say of the packets that came.
 use Rattle.std.proofs.Common.{◌≡◌, ◌↔◌, ◌+◌, ℕ, zero, suc, ℤ, pos, Bool, true, false, cond, Option, Some, List, [], ◌∷◌, length, take, map, slice_get, refl, sym, ap, subst, ◌∙◌, arith}
 use Rattle.tars_model.specs.declared.value.Value.{Value}
-use Rattle.session.specs.declared.link_log.GotFate.{GotFate}
-use Rattle.session.specs.declared.link_log.GotFate.TheVariants.{Used}
-use Rattle.session.specs.declared.link_log.GotRow.{GotRow}
-use Rattle.session.specs.declared.loaded.Loaded.{Loaded}
-use Rattle.session.specs.declared.pending.Pending.{Pending}
-use Rattle.session.specs.declared.report.CallId.{CallId}
-use Rattle.session.specs.declared.report.End.TheVariants.{Closed}
-use Rattle.session.specs.declared.report.Row.{Row}
+use Rattle.session_model.specs.declared.link_log.GotFate.{GotFate}
+use Rattle.session_model.specs.declared.link_log.GotFate.TheVariants.{Used}
+use Rattle.session_model.specs.declared.link_log.GotRow.{GotRow}
+use Rattle.session_model.specs.declared.loaded.Loaded.{Loaded}
+use Rattle.session.specs.declared.call_state.CallState.{CallState}
+use Rattle.session_model.specs.declared.report.CallId.{CallId}
+use Rattle.session_model.specs.declared.report.End.TheVariants.{Closed}
+use Rattle.session_model.specs.declared.report.Row.{Row}
 use Rattle.session.specs.declared.service.Service.{Service}
 use Rattle.session.specs.Courses.{Opened, outcome, answer_frame}
 use Rattle.session.specs.Planned.{row_of, got_rows}
 use Rattle.session.specs.Services.{reply_to, response_with, service_of}
-use Rattle.session.specs.Replies.{Reply, sum, code, UNKNOWN}
+use Rattle.session_model.specs.Replies.{Reply, sum, code, UNKNOWN}
 use Rattle.session.specs.RpcPackets.{response_frame}
 use Rattle.session.specs.Legal.{Scripted, IsUsedPacket, IsUsedId, IsReplied, packet_of}
 use Rattle.session.proofs.LegalCourses.{IsSound, none, full, late, waits, stopped, missed, replied, ended, opened_as}
 use Rattle.session.proofs.LegalRows.{IsCall, is_full, is_late, is_open, is_stopped, is_missed, is_replied, not_closed, names_packet}
-use Rattle.session.proofs.Readers.{some_is}
+use Rattle.script_text.proofs.Readers.{some_is}
 
 -- the rows of what was got
 abbrev pub all_got_rows : Service → List Opened → List GotFate → List GotRow
@@ -52,7 +52,7 @@ one_behind row p = record { own = p.own; k = suc p.k; row = p.row; there = p.the
 used_same : (a b : CallId) → Some (Used a) ≡ Some (Used b) → b ≡ a
 used_same a b e = cc
 
-pub named : {s : Service} {n : ℕ} {xs : List Scripted} {calls : List Pending} {args : List (List Value)} {fates : List GotFate}
+pub named : {s : Service} {n : ℕ} {xs : List Scripted} {calls : List CallState} {args : List (List Value)} {fates : List GotFate}
     (id : CallId) (k m : ℕ) → IsSound s n xs calls args fates → slice_get fates k ≡ Some (Used id) → m ≡ n + k + 1
     → IsNamed (map row_of calls) m id
 named id k m none e is = absurd (cc)
@@ -82,7 +82,7 @@ fate_used : (s : Service) (os : List Opened) (fates : List GotFate) (packet : �
 fate_used s os fates packet frame id u =
     (u.0, u.1, fate_got (take (length fates) (map (answer_frame s) os)) fates u.0 (record { packet = frame; fate = Used id }) u.2)
 
-pub used_named : {s : Service} {xs : List Scripted} {calls : List Pending} {args : List (List Value)} {fates : List GotFate}
+pub used_named : {s : Service} {xs : List Scripted} {calls : List CallState} {args : List (List Value)} {fates : List GotFate}
     (os : List Opened) → IsSound s 0 xs calls args fates → (packet : ℕ) (frame : List ℕ) (id : CallId)
     → IsUsedPacket (all_got_rows s os fates) packet frame id → IsNamed (map row_of calls) packet id
 used_named {s = s} {fates = fates} os h packet frame id u =
@@ -90,7 +90,7 @@ used_named {s = s} {fates = fates} os h packet frame id u =
     named id f.0 packet h f.2 (let e = f.1 in omega arith)
 
 -- the fate at an id's own place tells whether a packet settled its call
-pub unused : {s : Service} {xs : List Scripted} {calls : List Pending} {args : List (List Value)} {fates : List GotFate}
+pub unused : {s : Service} {xs : List Scripted} {calls : List CallState} {args : List (List Value)} {fates : List GotFate}
     (os : List Opened) (n : ℕ) → IsSound s 0 xs calls args fates → (slice_get fates n ≡ Some (Used (record { 0 = n + 1 })) → ⊥)
     → IsUsedId (all_got_rows s os fates) (record { 0 = n + 1 }) → ⊥
 unused {s = s} {fates = fates} os n h not u =
@@ -104,8 +104,8 @@ abbrev IsLeft : List GotRow → Row → Type 0
 IsLeft got row = (id : CallId) × (row.id ≡ Some id) × (IsUsedId got id → ⊥)
 
 -- a call ends by the close exactly where no packet settled it
-pub closed_exactly : {s : Service} {xs : List Scripted} {calls : List Pending} {args : List (List Value)} {fates : List GotFate}
-    (os : List Opened) (n : ℕ) (x : Scripted) (call : Pending) → IsSound s 0 xs calls args fates
+pub closed_exactly : {s : Service} {xs : List Scripted} {calls : List CallState} {args : List (List Value)} {fates : List GotFate}
+    (os : List Opened) (n : ℕ) (x : Scripted) (call : CallState) → IsSound s 0 xs calls args fates
     → IsCall s n x (slice_get fates n) (slice_get os n) call
     → ((row_of call).end ≡ Closed) ↔ IsLeft (all_got_rows s os fates) (row_of call)
 closed_exactly {s = s} {fates = fates} os n x call h is = go (slice_get fates n) (slice_get os n) call is refl refl
@@ -113,7 +113,7 @@ closed_exactly {s = s} {fates = fates} os n x call h is = go (slice_get fates n)
     left : (fate : Option GotFate) → slice_get fates n ≡ fate → (fate ≡ Some (Used (record { 0 = n + 1 })) → ⊥) → IsUsedId (all_got_rows s os fates) (record { 0 = n + 1 }) → ⊥
     left fate e not = unused os n h (λ u. not (sym e ∙ u))
 
-    go : (fate : Option GotFate) (own : Option Opened) (call : Pending) → IsCall s n x fate own call → slice_get fates n ≡ fate → slice_get os n ≡ own
+    go : (fate : Option GotFate) (own : Option Opened) (call : CallState) → IsCall s n x fate own call → slice_get fates n ≡ fate → slice_get os n ≡ own
         → ((row_of call).end ≡ Closed) ↔ IsLeft (all_got_rows s os fates) (row_of call)
     go fate own call (is_full w) ef eo = (λ e. absurd (cc), λ g. absurd (let i = g.1 in cc))
     go fate own call (is_late w c) ef eo = (λ e. absurd (cc), λ g. absurd (let i = g.1 in cc))
@@ -157,7 +157,7 @@ reply_came l got x n (code v) first codes e = (
   },
 )
 
-pub replied_as : (l : Loaded) (fates : List GotFate) (os : List Opened) (n : ℕ) (x : Scripted) (call : Pending) → x.spec.func ≡ 0
+pub replied_as : (l : Loaded) (fates : List GotFate) (os : List Opened) (n : ℕ) (x : Scripted) (call : CallState) → x.spec.func ≡ 0
     → IsCall (service_of l) n x (slice_get fates n) (slice_get os n) call
     → IsReplied l (all_got_rows (service_of l) os fates) (row_of call) (row_of call).end
 replied_as l fates os n x call first is = go (slice_get fates n) (slice_get os n) call is refl refl
@@ -165,7 +165,7 @@ replied_as l fates os n x call first is = go (slice_get fates n) (slice_get os n
     s : Service
     s = service_of l
 
-    go : (fate : Option GotFate) (own : Option Opened) (call : Pending) → IsCall (service_of l) n x fate own call → slice_get fates n ≡ fate → slice_get os n ≡ own
+    go : (fate : Option GotFate) (own : Option Opened) (call : CallState) → IsCall (service_of l) n x fate own call → slice_get fates n ≡ fate → slice_get os n ≡ own
         → IsReplied l (all_got_rows (service_of l) os fates) (row_of call) (row_of call).end
     go fate own call (is_full w) ef eo = tt
     go fate own call (is_late w c) ef eo = tt

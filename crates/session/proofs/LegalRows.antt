@@ -2,33 +2,33 @@
 use Rattle.std.proofs.Common.{◌≡◌, ◌<◌, ◌≤◌, ◌↔◌, ◌+◌, ℕ, zero, suc, Bool, true, false, cond, Option, Some, None, List, [], ◌∷◌, take, drop, map, fold, filter, count_by, slice_get, refl, sym, ap, ◌∙◌, arith, add-one}
 use Rattle.std.specs.List.{filter_map, cons_option}
 use Rattle.tars_model.specs.declared.value.Value.{Value}
-use Rattle.session.specs.declared.link_log.GotFate.{GotFate}
-use Rattle.session.specs.declared.link_log.GotFate.TheVariants.{Used, Late}
-use Rattle.session.specs.declared.link_log.SentRow.{SentRow}
-use Rattle.session.specs.declared.loaded.Event.{Event}
-use Rattle.session.specs.declared.loaded.Event.TheVariants.{Call, Serve, Work, Deliver, Close}
-use Rattle.session.specs.declared.loaded.Loaded.{Loaded}
-use Rattle.session.specs.declared.pending.Pending.{Pending}
-use Rattle.session.specs.declared.report.CallId.{CallId}
-use Rattle.session.specs.declared.report.End.{End}
-use Rattle.session.specs.declared.report.End.TheVariants.{Value as ValueEnd, Code, Closed, Refused}
-use Rattle.session.specs.declared.report.PickNote.{PickNote}
-use Rattle.session.specs.declared.report.Refusal.{Refusal}
-use Rattle.session.specs.declared.report.Refusal.TheVariants as refusal
-use Rattle.session.specs.declared.report.Row.{Row}
+use Rattle.session_model.specs.declared.link_log.GotFate.{GotFate}
+use Rattle.session_model.specs.declared.link_log.GotFate.TheVariants.{Used, Late}
+use Rattle.session_model.specs.declared.link_log.SentRow.{SentRow}
+use Rattle.session_model.specs.declared.loaded.Event.{Event}
+use Rattle.session_model.specs.declared.loaded.Event.TheVariants.{Call, Serve, Work, Deliver, Close}
+use Rattle.session_model.specs.declared.loaded.Loaded.{Loaded}
+use Rattle.session.specs.declared.call_state.CallState.{CallState}
+use Rattle.session_model.specs.declared.report.CallId.{CallId}
+use Rattle.session_model.specs.declared.report.End.{End}
+use Rattle.session_model.specs.declared.report.End.TheVariants.{Value as ValueEnd, Code, Closed, Refused}
+use Rattle.session_model.specs.declared.report.PickNote.{PickNote}
+use Rattle.session_model.specs.declared.report.Refusal.{Refusal}
+use Rattle.session_model.specs.declared.report.Refusal.TheVariants as refusal
+use Rattle.session_model.specs.declared.report.Row.{Row}
 use Rattle.session.specs.declared.service.Service.{Service}
 use Rattle.session.specs.Courses.{Opened, opened_among, not_sent, open_under, outcome}
-use Rattle.session.specs.Sessions.{WIDTH, live_node}
+use Rattle.session_model.specs.Sessions.{WIDTH, live_node}
 use Rattle.session.specs.Planned.{row_of, sent_row, picked_step, reported_step}
 use Rattle.session.specs.Services.{reply_to, service_of}
-use Rattle.session.specs.Replies.{Reply, sum, code}
+use Rattle.session_model.specs.Replies.{Reply, sum, code}
 use Rattle.session.specs.Legal.{Scripted, scripted_after, call_of, heading_of, heading_of_call, was_sent, sent_before, ids_of, RiseAbove, IsRefusal, Says, pick_of, packet_of, picked_of, reported_of, IsSentAs}
 use Rattle.session.proofs.LegalCourses.{IsSound, none, full, late, waits, stopped, missed, replied, ended, opened_as}
-use Rattle.session.proofs.Readers.{some_is}
+use Rattle.script_text.proofs.Readers.{some_is}
 
 -- Headings, ids and frames, in order.
 
-pub headings : {s : Service} {n : ℕ} {xs : List Scripted} {calls : List Pending} {args : List (List Value)} {fates : List GotFate}
+pub headings : {s : Service} {n : ℕ} {xs : List Scripted} {calls : List CallState} {args : List (List Value)} {fates : List GotFate}
     → IsSound s n xs calls args fates → map heading_of (map row_of calls) ≡ map (λ (x : Scripted). heading_of_call x.spec) xs
 headings none = refl
 headings (full h r) = rw (headings r) refl
@@ -47,7 +47,7 @@ scripted_calls closed (Work node ∷ es) = scripted_calls closed es
 scripted_calls closed (Deliver node bytes ∷ es) = scripted_calls closed es
 scripted_calls closed (Close ∷ es) = scripted_calls true es
 
-pub ids_rise : {s : Service} {n : ℕ} {xs : List Scripted} {calls : List Pending} {args : List (List Value)} {fates : List GotFate}
+pub ids_rise : {s : Service} {n : ℕ} {xs : List Scripted} {calls : List CallState} {args : List (List Value)} {fates : List GotFate}
     → IsSound s n xs calls args fates → RiseAbove n (ids_of (map row_of calls))
 ids_rise none = tt
 ids_rise (full h r) = ids_rise r
@@ -57,7 +57,7 @@ ids_rise (stopped h c r) = (omega arith, ids_rise r)
 ids_rise (missed h c r) = (omega arith, ids_rise r)
 ids_rise (replied h c r) = (omega arith, ids_rise r)
 
-pub calls_sent : {s : Service} {n : ℕ} {xs : List Scripted} {calls : List Pending} {args : List (List Value)} {fates : List GotFate}
+pub calls_sent : {s : Service} {n : ℕ} {xs : List Scripted} {calls : List CallState} {args : List (List Value)} {fates : List GotFate}
     → IsSound s n xs calls args fates
     → map (λ (sent : SentRow). sent.call) (map (sent_row s) (opened_among calls args)) ≡ map (λ (row : Row). row.call) (filter was_sent (map row_of calls))
 calls_sent none = refl
@@ -71,7 +71,7 @@ calls_sent (replied h c r) = rw (calls_sent r) refl
 -- The call at one place.
 
 -- a call after so many that were sent: what became of the packet that comes for it, and how it was opened
-pub data IsCall (s : Service) (n : ℕ) (x : Scripted) (fate : Option GotFate) (own : Option Opened) : Pending → Type 0 where
+pub data IsCall (s : Service) (n : ℕ) (x : Scripted) (fate : Option GotFate) (own : Option Opened) : CallState → Type 0 where
   is_full : WIDTH ≤ n → IsCall s n x fate own (not_sent x.spec None refusal.Full)
   is_late : n < WIDTH → x.closed ≡ true → IsCall s n x fate own (not_sent x.spec live_node (refusal.Closed 0))
   is_open : n < WIDTH → x.closed ≡ false → fate ≡ None → own ≡ Some (opened_as x (n + 1)) → IsCall s n x fate own (open_under x.spec (n + 1))
@@ -81,10 +81,10 @@ pub data IsCall (s : Service) (n : ℕ) (x : Scripted) (fate : Option GotFate) (
       n < WIDTH → x.closed ≡ false → fate ≡ Some (Used (record { 0 = n + 1 })) → own ≡ Some (opened_as x (n + 1))
       → IsCall s n x fate own (ended x.spec (n + 1) (outcome (n + 1) (reply_to s x.spec.args)))
 
-pub record IsAt (s : Service) (xs : List Scripted) (n k : ℕ) (calls : List Pending) (os : List Opened) (all : List GotFate) (row : Row) : Type 0 where
+pub record IsAt (s : Service) (xs : List Scripted) (n k : ℕ) (calls : List CallState) (os : List Opened) (all : List GotFate) (row : Row) : Type 0 where
   pub m : ℕ
   pub x : Scripted
-  pub call : Pending
+  pub call : CallState
   pub count : m ≡ n + sent_before (map row_of calls) k
   pub row_is : row ≡ row_of call
   pub x_at : slice_get xs k ≡ Some x
@@ -109,7 +109,7 @@ drop_none (suc n) [] e = (refl, refl)
 drop_none (suc n) (x ∷ xs) e = drop_none n xs e
 
 -- one place further, behind a call that was sent or not
-behind_unsent : {s : Service} {xs : List Scripted} {n k : ℕ} {calls : List Pending} {os : List Opened} {all : List GotFate} {row : Row} (x : Scripted) (call : Pending)
+behind_unsent : {s : Service} {xs : List Scripted} {n k : ℕ} {calls : List CallState} {os : List Opened} {all : List GotFate} {row : Row} (x : Scripted) (call : CallState)
     → call.id ≡ None → IsAt s xs n k calls os all row → IsAt s (x ∷ xs) n (suc k) (call ∷ calls) os all row
 behind_unsent {k = k} {calls = calls} x call none_is p = record {
   m = p.m;
@@ -121,7 +121,7 @@ behind_unsent {k = k} {calls = calls} x call none_is p = record {
   is = p.is;
 }
 
-behind_sent : {s : Service} {xs : List Scripted} {n k : ℕ} {calls : List Pending} {os : List Opened} {all : List GotFate} {row : Row} (x : Scripted) (call : Pending) (id : CallId)
+behind_sent : {s : Service} {xs : List Scripted} {n k : ℕ} {calls : List CallState} {os : List Opened} {all : List GotFate} {row : Row} (x : Scripted) (call : CallState) (id : CallId)
     → call.id ≡ Some id → IsAt s xs (n + 1) k calls os all row → IsAt s (x ∷ xs) n (suc k) (call ∷ calls) os all row
 behind_sent {k = k} {calls = calls} x call id id_is p = record {
   m = p.m;
@@ -133,7 +133,7 @@ behind_sent {k = k} {calls = calls} x call id id_is p = record {
   is = p.is;
 }
 
-abbrev here : {s : Service} {n : ℕ} {xs : List Scripted} {calls : List Pending} {os : List Opened} {all : List GotFate} (row : Row) (x : Scripted) (call : Pending)
+abbrev here : {s : Service} {n : ℕ} {xs : List Scripted} {calls : List CallState} {os : List Opened} {all : List GotFate} (row : Row) (x : Scripted) (call : CallState)
     → Some (row_of call) ≡ Some row → IsCall s n x (slice_get all n) (slice_get os n) call → IsAt s (x ∷ xs) n 0 (call ∷ calls) os all row
 here {n = n} row x call e is = record {
   m = n;
@@ -145,7 +145,7 @@ here {n = n} row x call e is = record {
   is = is;
 }
 
-pub at : {s : Service} {n : ℕ} {xs : List Scripted} {calls : List Pending} {args : List (List Value)} {fates : List GotFate} (os : List Opened) (all : List GotFate)
+pub at : {s : Service} {n : ℕ} {xs : List Scripted} {calls : List CallState} {args : List (List Value)} {fates : List GotFate} (os : List Opened) (all : List GotFate)
     → IsSound s n xs calls args fates → drop n all ≡ fates → drop n os ≡ opened_among calls args
     → (k : ℕ) (row : Row) → slice_get (map row_of calls) k ≡ Some row → IsAt s xs n k calls os all row
 at os all none ea eo k row e = absurd (cc)
@@ -186,7 +186,7 @@ pub names_packet : (packet : ℕ) (r : Reply) → packet_of (outcome packet r) �
 names_packet packet (sum n) = refl
 names_packet packet (code n) = refl
 
-pub full_exactly : {s : Service} {n : ℕ} {x : Scripted} {fate : Option GotFate} {own : Option Opened} {call : Pending}
+pub full_exactly : {s : Service} {n : ℕ} {x : Scripted} {fate : Option GotFate} {own : Option Opened} {call : CallState}
     → IsCall s n x fate own call → ((row_of call).end ≡ Refused refusal.Full) ↔ (WIDTH ≤ n)
 full_exactly (is_full h) = (λ e. h, λ g. refl)
 full_exactly (is_late h c) = (λ e. absurd (cc), λ g. absurd (omega arith))
@@ -196,7 +196,7 @@ full_exactly (is_missed h c f o) = (λ e. absurd (cc), λ g. absurd (omega arith
 full_exactly {s = s} {n = n} {x = x} (is_replied h c f o) =
     (λ e. absurd (not_refused refusal.Full (n + 1) (reply_to s x.spec.args) e), λ g. absurd (omega arith))
 
-pub late_exactly : {s : Service} {n : ℕ} {x : Scripted} {fate : Option GotFate} {own : Option Opened} {call : Pending}
+pub late_exactly : {s : Service} {n : ℕ} {x : Scripted} {fate : Option GotFate} {own : Option Opened} {call : CallState}
     → IsCall s n x fate own call → ((row_of call).end ≡ Refused (refusal.Closed 0)) ↔ ((x.closed ≡ true) × (n < WIDTH))
 late_exactly (is_full h) = (λ e. absurd (cc), λ g. absurd (let b = g.1 in omega arith))
 late_exactly (is_late h c) = (λ e. (c, h), λ g. refl)
@@ -217,7 +217,7 @@ outcome_picks : (packet : ℕ) (r : Reply) → live_node ≡ pick_of (outcome pa
 outcome_picks packet (sum n) = refl
 outcome_picks packet (code n) = refl
 
-pub unsent_exactly : {s : Service} {n : ℕ} {x : Scripted} {fate : Option GotFate} {own : Option Opened} {call : Pending}
+pub unsent_exactly : {s : Service} {n : ℕ} {x : Scripted} {fate : Option GotFate} {own : Option Opened} {call : CallState}
     → IsCall s n x fate own call → ((row_of call).id ≡ None) ↔ IsRefusal (row_of call).end
 unsent_exactly (is_full h) = (λ e. tt, λ g. refl)
 unsent_exactly (is_late h c) = (λ e. tt, λ g. refl)
@@ -227,7 +227,7 @@ unsent_exactly {n = n} (is_missed h c f o) = (λ e. absurd (some_not_none (recor
 unsent_exactly {s = s} {n = n} {x = x} (is_replied h c f o) =
     (λ e. absurd (some_not_none (record { 0 = n + 1 }) e), λ g. absurd (outcome_passes (n + 1) (reply_to s x.spec.args) g))
 
-pub picked_exactly : {s : Service} {n : ℕ} {x : Scripted} {fate : Option GotFate} {own : Option Opened} {call : Pending}
+pub picked_exactly : {s : Service} {n : ℕ} {x : Scripted} {fate : Option GotFate} {own : Option Opened} {call : CallState}
     → IsCall s n x fate own call → (row_of call).pick ≡ pick_of (row_of call).end
 picked_exactly (is_full h) = refl
 picked_exactly (is_late h c) = refl
@@ -240,7 +240,7 @@ outcome_says : (packet : ℕ) (r : Reply) → Says (outcome packet r) r
 outcome_says packet (sum n) = refl
 outcome_says packet (code n) = refl
 
-pub rule_exactly : {s : Service} {n : ℕ} {x : Scripted} {fate : Option GotFate} {own : Option Opened} {call : Pending} (packet : ℕ)
+pub rule_exactly : {s : Service} {n : ℕ} {x : Scripted} {fate : Option GotFate} {own : Option Opened} {call : CallState} (packet : ℕ)
     → IsCall s n x fate own call → packet_of (row_of call).end ≡ Some packet → Says (row_of call).end (reply_to s x.spec.args)
 rule_exactly packet (is_full h) e = absurd (cc)
 rule_exactly packet (is_late h c) e = absurd (cc)
@@ -263,11 +263,11 @@ unfolding service_of
 sent_as l os n x id first e own =
     rw (sym (some_is (record { 0 = n + 1 }) id e)) (n, refl, rw first (map_at (sent_row (service_of l)) os n (opened_as x (n + 1)) own))
 
-pub sent_exactly : (l : Loaded) (os : List Opened) (n : ℕ) (x : Scripted) (id : CallId) {fate : Option GotFate} {call : Pending} → x.spec.func ≡ 0
+pub sent_exactly : (l : Loaded) (os : List Opened) (n : ℕ) (x : Scripted) (id : CallId) {fate : Option GotFate} {call : CallState} → x.spec.func ≡ 0
     → IsCall (service_of l) n x fate (slice_get os n) call → (row_of call).id ≡ Some id → IsSentAs l (map (sent_row (service_of l)) os) x.spec id
 sent_exactly l os n x id {fate = fate} {call = call} first is e = go (slice_get os n) call refl is e
   where
-    go : (own : Option Opened) (call : Pending) → slice_get os n ≡ own → IsCall (service_of l) n x fate own call → (row_of call).id ≡ Some id
+    go : (own : Option Opened) (call : CallState) → slice_get os n ≡ own → IsCall (service_of l) n x fate own call → (row_of call).id ≡ Some id
         → IsSentAs l (map (sent_row (service_of l)) os) x.spec id
     go own call eo (is_full h) e = absurd (cc)
     go own call eo (is_late h c) e = absurd (cc)
@@ -278,24 +278,24 @@ sent_exactly l os n x id {fate = fate} {call = call} first is e = go (slice_get 
 
 -- What the router did.
 
-picked_same : (call : Pending) (pick : Option PickNote) → call.pick ≡ pick → picked_step call ≡ picked_of (row_of call)
+picked_same : (call : CallState) (pick : Option PickNote) → call.pick ≡ pick → picked_step call ≡ picked_of (row_of call)
 picked_same call None e = rw e refl
 picked_same call (Some note) e = rw e refl
 
-reported_same : (call : Pending) (end : Option End) → call.end ≡ end → reported_step call ≡ reported_of (row_of call)
+reported_same : (call : CallState) (end : Option End) → call.end ≡ end → reported_step call ≡ reported_of (row_of call)
 reported_same call None e = rw e refl
 reported_same call (Some (ValueEnd link packet values)) e = rw e refl
 reported_same call (Some (Code link packet n)) e = rw e refl
 reported_same call (Some Closed) e = rw e refl
 reported_same call (Some (Refused why)) e = rw e refl
 
-pub picks_same : (calls : List Pending) → filter_map picked_step calls ≡ filter_map picked_of (map row_of calls)
+pub picks_same : (calls : List CallState) → filter_map picked_step calls ≡ filter_map picked_of (map row_of calls)
 picks_same [] = refl
 picks_same (call ∷ calls) =
     ap (λ step. cons_option step (filter_map picked_step calls)) (picked_same call call.pick refl)
     ∙ ap (λ steps. cons_option (picked_of (row_of call)) steps) (picks_same calls)
 
-pub reports_same : (calls : List Pending) → filter_map reported_step calls ≡ filter_map reported_of (map row_of calls)
+pub reports_same : (calls : List CallState) → filter_map reported_step calls ≡ filter_map reported_of (map row_of calls)
 reports_same [] = refl
 reports_same (call ∷ calls) =
     ap (λ step. cons_option step (filter_map reported_step calls)) (reported_same call call.end refl)

@@ -5,15 +5,15 @@ use Rattle.std.specs.List.{AllByRecursion}
 use Rattle.std.proofs.lemmas.Bool.{ltb-true, leb-true, leb-false}
 use Rattle.std.proofs.lemmas.List.{length-map, take-map, length-take-le}
 use Rattle.wire_words.specs.Packets.{packets_of}
-use Rattle.session.specs.declared.link_log.GotFate.{GotFate}
-use Rattle.session.specs.declared.loaded.CallSpec.{CallSpec}
-use Rattle.session.specs.declared.loaded.Event.{Event}
-use Rattle.session.specs.declared.loaded.Event.TheVariants.{Call, Serve, Work, Deliver, Close}
-use Rattle.session.specs.declared.loaded.Loaded.{Loaded}
-use Rattle.session.specs.declared.report.Refusal.TheVariants as refusal
+use Rattle.session_model.specs.declared.link_log.GotFate.{GotFate}
+use Rattle.session_model.specs.declared.loaded.CallSpec.{CallSpec}
+use Rattle.session_model.specs.declared.loaded.Event.{Event}
+use Rattle.session_model.specs.declared.loaded.Event.TheVariants.{Call, Serve, Work, Deliver, Close}
+use Rattle.session_model.specs.declared.loaded.Loaded.{Loaded}
+use Rattle.session_model.specs.declared.report.Refusal.TheVariants as refusal
 use Rattle.session.specs.declared.service.Service.{Service}
 use Rattle.session.specs.Courses.{Course, Opened, start, opened, opened_among, with_id, began, not_sent, open_under, got, closed_call, sent_frame, answer_frame, joined, offered, answers_stream, step, after_all}
-use Rattle.session.specs.Sessions.{WIDTH, NODE, live_node}
+use Rattle.session_model.specs.Sessions.{WIDTH, NODE, live_node}
 use Rattle.session.specs.Services.{IsService, AreTwoInts, HaveInts, service_of}
 use Rattle.session.specs.Loading.{IsLoaded}
 use Rattle.session.specs.Legal.{Scripted, scripted, scripted_after}

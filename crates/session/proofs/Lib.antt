@@ -15,16 +15,6 @@ pub mod LegalRows
 pub mod LegalReplies
 pub mod InterfaceLaws
 pub mod LegalLaw
-pub mod Readers
-pub mod Names
-pub mod Texts
-pub mod Numbers
-pub mod Lines
-pub mod LineReaders
-pub mod EventsLoop
-pub mod HeaderLaws
-pub mod EventLaws
-pub mod ScriptLaws
 pub mod SessionLaws
 pub mod LoadingLaws
 pub mod OneVerdict

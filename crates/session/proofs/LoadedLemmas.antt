@@ -2,13 +2,13 @@
 use Rattle.std.proofs.Common.{◌≡◌, ◌≤◌, ◌<◌, ◌+◌, ℕ, Bool, true, false, cond, List, [], ◌∷◌, length, refl, sym, subst, arith, length-append}
 use Rattle.std.specs.List.{AllByRecursion}
 use Rattle.std.specs.Str.{bytes_eq}
-use Rattle.session.specs.declared.loaded.Loaded.{Loaded}
+use Rattle.session_model.specs.declared.loaded.Loaded.{Loaded}
 use Rattle.session.specs.declared.service.Service.{Service}
 use Rattle.session.specs.InterfaceFile.{InterfaceText}
-use Rattle.session.specs.ScriptText.{ScriptText, IsScriptText, ObjectText, EventText, call, serve, work, deliver, close, object_id, object_line}
+use Rattle.script_text.specs.ScriptText.{ScriptText, IsScriptText, ObjectText, EventText, call, serve, work, deliver, close, object_id, object_line}
 use Rattle.session.specs.RpcPackets.{MAX_TEXT}
-use Rattle.session.specs.TextLimits.{MAX_NAME, MAX_LINE}
-use Rattle.session.specs.Loading.{IsLoaded, loaded_of, place_of, events_from, IsEventOf}
+use Rattle.script_text.specs.TextLimits.{MAX_NAME, MAX_LINE}
+use Rattle.session.specs.Loading.{IsLoaded, loaded_of, index_of, events_from, IsEventOf}
 use Rattle.session.specs.Services.{IsService, HaveInts, service_of}
 
 -- an object's id is part of a line
@@ -16,8 +16,8 @@ id_short : (o : ObjectText) → length (object_line o) ≤ MAX_LINE → length (
 unfolding object_line
 id_short o h = let g = simp length-append at h in omega arith
 
-place_small : (i : InterfaceText) (name : List ℕ) → place_of i name < 2
-place_small i name = go (bytes_eq name i.first)
+index_small : (i : InterfaceText) (name : List ℕ) → index_of i name < 2
+index_small i name = go (bytes_eq name i.first)
   where
     go : (b : Bool) → cond b 0 1 < 2
     go true = omega arith
@@ -29,8 +29,8 @@ service_loaded s i bytes h name = record {
   id_short = id_short s.object h.short.1.1.0;
   func_short = omega arith;
   timeout_small = omega (arith, h.object.timeout.high_end);
-  left_place = place_small i s.left;
-  right_place = place_small i s.right;
+  left_index = index_small i s.left;
+  right_index = index_small i s.right;
   first = i.first;
   second = i.second;
   arguments_are = refl;

@@ -5,10 +5,10 @@ use Rattle.std.proofs.lemmas.List.{take_all}
 use Rattle.tars_base.specs.Contents.{Contents, HoldsOnly, IsToldOnly, IsFrontOfFile}
 use Rattle.session.specs.declared.load_fault.LoadFault.{LoadFault}
 use Rattle.session.specs.declared.load_fault.LoadFault.TheVariants.{Refused, Read, Memory}
-use Rattle.session.specs.declared.loaded.Loaded.{Loaded}
-use Rattle.session.specs.declared.script.ScriptText.{ScriptText as ScriptStruct}
+use Rattle.session_model.specs.declared.loaded.Loaded.{Loaded}
+use Rattle.script_text.specs.declared.script.ScriptText.{ScriptText as ScriptStruct}
 use Rattle.session.specs.InterfaceFile.{InterfaceText, Verdict, accepted, IsJudged, too_long, no_tokens, no_file, another_shape, one_function}
-use Rattle.session.specs.TextLimits.{MAX_FILE}
+use Rattle.script_text.specs.TextLimits.{MAX_FILE}
 use Rattle.session.specs.InterfaceFile as verdict
 use Rattle.session.specs.LoadAnswers.{answer_of, IsGiven, IsOnlyGiven, IsRefusedBy, IsFileRefusedBy}
 use Rattle.session.specs.InterfaceVerdicts.{verdict_of}
@@ -19,11 +19,11 @@ use Rattle.session.specs.declared.interface_fault.InterfaceFault.{InterfaceFault
 use Rattle.session.specs.declared.interface_fault.InterfaceFault.TheVariants as interfaces
 use Rattle.session.specs.Loading.{LoadAnswer, loaded, refused, Loads, Agree, loaded_of}
 use Rattle.session.specs.Loading.{no_script, bad_script, no_interface, bad_interface, bad_value, session}
-use Rattle.session.specs.Reading.{event_of, Reads}
-use Rattle.session.specs.ScriptSteps.{is_call_value}
-use Rattle.session.specs.ScriptText.{ScriptText, IsScriptText}
-use Rattle.session.specs.TextLimits.{MAX_CALLS}
-use Rattle.session.proofs.ScriptLaws.{calls_are}
+use Rattle.script_text.specs.Reading.{event_of, Reads}
+use Rattle.script_text.specs.ScriptSteps.{is_call_value}
+use Rattle.script_text.specs.ScriptText.{ScriptText, IsScriptText}
+use Rattle.script_text.specs.TextLimits.{MAX_CALLS}
+use Rattle.script_text.proofs.ScriptLaws.{calls_are}
 
 -- ---- the front of a file
 

@@ -3,7 +3,7 @@ use Rattle.std.proofs.Common.{◌≡◌, ◌≤◌, ℕ, true, List, length, tak
 use Rattle.std.specs.List.{AllByRecursion}
 use Rattle.session.specs.declared.plan.Plan.{Plan}
 use Rattle.session.specs.Courses.{Course, Opened, closed_call, opened, sent_frame, answer_frame, joined}
-use Rattle.session.specs.Sessions.{WIDTH}
+use Rattle.session_model.specs.Sessions.{WIDTH}
 use Rattle.session.specs.Planned.{got_rows, sent_row}
 use Rattle.session.specs.Tracks.{Tracks, IsOpened, answer_frames}
 

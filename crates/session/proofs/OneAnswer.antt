@@ -3,10 +3,14 @@ use Rattle.std.proofs.Common.{◌≡◌, ◌⊎◌, inl, inr, ℕ, List, [], Opt
 use Rattle.tars_base.specs.Contents.{Contents, HoldsOnly}
 use Rattle.session.specs.InterfaceFile.{InterfaceText, Verdict, accepted, IsJudged}
 use Rattle.session.specs.InterfaceFile as verdict
-use Rattle.session.specs.Loading.{LoadAnswer, loaded, refused, unread, Loads, Agree, loaded_of, refusal_line, BAD_SCRIPT, BAD_VALUE}
+use Rattle.session.specs.Loading.{LoadAnswer, loaded, refused, unread, Loads, Agree, loaded_of}
+use Rattle.session.specs.Refusals.{refusal_line, script_fault, file_fault}
+use Rattle.session.specs.declared.interface_fault.FileFault.{FileFault}
+use Rattle.session.specs.declared.interface_fault.FileFault.TheVariants.{Shape}
+use Rattle.session.specs.declared.refused_text.ScriptFault.TheVariants.{Form, Value as BadValue}
 use Rattle.session.specs.Loading.{no_script, bad_script, no_interface, bad_interface, bad_value, session}
-use Rattle.session.specs.ScriptText.{ScriptText, IsScriptText}
-use Rattle.session.proofs.Readers.{some_is}
+use Rattle.script_text.specs.ScriptText.{ScriptText, IsScriptText}
+use Rattle.script_text.proofs.Readers.{some_is}
 use Rattle.session.proofs.OneScript.{Alike, alike, some_script}
 use Rattle.session.proofs.OneSession.{some_agreement, agree_alike, loaded_alike}
 use Rattle.session.proofs.OneVerdict.{one_verdict}
@@ -26,8 +30,8 @@ one_text c name a b is own = some_is a b (sym is ∙ own)
 -- the rows of loading that are left then
 pub data Left (c : Contents) (name : List ℕ) (s : ScriptText) : LoadAnswer → Type 0 where
   missing : c s.client ≡ None → Left c name s (unread s.client)
-  bad_file : (file what : List ℕ) → c s.client ≡ Some file → IsJudged file (verdict.refused what) → Left c name s (refused (refusal_line s.client what))
-  apart : (file : List ℕ) (i : InterfaceText) → c s.client ≡ Some file → IsJudged file (accepted i) → (Agree s i → ⊥) → Left c name s (refused (refusal_line name BAD_VALUE))
+  bad_file : (file : List ℕ) (what : FileFault) → c s.client ≡ Some file → IsJudged file (verdict.refused what) → Left c name s (refused (refusal_line s.client (file_fault what)))
+  apart : (file : List ℕ) (i : InterfaceText) → c s.client ≡ Some file → IsJudged file (accepted i) → (Agree s i → ⊥) → Left c name s (refused (refusal_line name (script_fault BadValue)))
   agreed : (file : List ℕ) (i : InterfaceText) → c s.client ≡ Some file → IsJudged file (accepted i) → Agree s i → Left c name s (loaded (loaded_of s i))
 
 left_of : (c : Contents) (name text : List ℕ) (s : ScriptText) (answer : LoadAnswer) → c name ≡ Some text → IsScriptText s text → Loads c name answer → Left c name s answer
@@ -38,7 +42,7 @@ left_of c name text s answer is form (no_interface other t own also none) =
     subst (λ (client : List ℕ). Left c name s (unread client)) (sym same.client) (missing (ap c (sym same.client) ∙ none))
 left_of c name text s answer is form (bad_interface other file what t own also found judged) =
     let same = alike text t s (subst (IsScriptText t) (one_text c name other text own is) also) form in
-    subst (λ (client : List ℕ). Left c name s (refused (refusal_line client what))) (sym same.client) (bad_file file what (ap c (sym same.client) ∙ found) judged)
+    subst (λ (client : List ℕ). Left c name s (refused (refusal_line client (file_fault what)))) (sym same.client) (bad_file file what (ap c (sym same.client) ∙ found) judged)
 left_of c name text s answer is form (bad_value other file t i own also found judged unlike) =
     let text_is = one_text c name other text own is in
     let same = alike text t s (subst (IsScriptText t) text_is also) form in
@@ -52,15 +56,15 @@ left_of c name text s answer is form (session other file t i own also found judg
 of_file : (c : Contents) (client file other : List ℕ) (v w : Verdict) → c client ≡ Some file → HoldsOnly (IsJudged file) v → c client ≡ Some other → IsJudged other w → w ≡ v
 of_file c client file other v w is judged own also = judged.only w (subst (λ (b : List ℕ). IsJudged b w) (one_text c client other file own is) also)
 
-unlike : (what : List ℕ) (i : InterfaceText) → accepted i ≡ verdict.refused what → ⊥
+unlike : (what : FileFault) (i : InterfaceText) → accepted i ≡ verdict.refused what → ⊥
 unlike what i e = absurd cc
 
 abbrev names_in : Verdict → InterfaceText → InterfaceText
 names_in (accepted i) j = i
 names_in (verdict.refused what) j = j
 
-abbrev what_in : Verdict → List ℕ
-what_in (accepted i) = []
+abbrev what_in : Verdict → FileFault
+what_in (accepted i) = Shape
 what_in (verdict.refused what) = what
 
 only_missing : (c : Contents) (name : List ℕ) (s : ScriptText) (other : LoadAnswer) → c s.client ≡ None → Left c name s other → other ≡ unread s.client
@@ -69,17 +73,17 @@ only_missing c name s other none (bad_file file what is judged) = absurd (there 
 only_missing c name s other none (apart file i is judged un) = absurd (there c s.client file is none)
 only_missing c name s other none (agreed file i is judged a) = absurd (there c s.client file is none)
 
-only_bad : (c : Contents) (name file what : List ℕ) (s : ScriptText) (other : LoadAnswer) → c s.client ≡ Some file → HoldsOnly (IsJudged file) (verdict.refused what) → Left c name s other → other ≡ refused (refusal_line s.client what)
+only_bad : (c : Contents) (name file : List ℕ) (what : FileFault) (s : ScriptText) (other : LoadAnswer) → c s.client ≡ Some file → HoldsOnly (IsJudged file) (verdict.refused what) → Left c name s other → other ≡ refused (refusal_line s.client (file_fault what))
 only_bad c name file what s other is judged (missing gone) = absurd (there c s.client file is gone)
 only_bad c name file what s other is judged (bad_file f w own also) =
-    ap (λ (v : Verdict). refused (refusal_line s.client (what_in v))) (of_file c s.client file f (verdict.refused what) (verdict.refused w) is judged own also)
+    ap (λ (v : Verdict). refused (refusal_line s.client (file_fault (what_in v)))) (of_file c s.client file f (verdict.refused what) (verdict.refused w) is judged own also)
 only_bad c name file what s other is judged (apart f i own also un) = absurd (unlike what i (of_file c s.client file f (verdict.refused what) (accepted i) is judged own also))
 only_bad c name file what s other is judged (agreed f i own also a) = absurd (unlike what i (of_file c s.client file f (verdict.refused what) (accepted i) is judged own also))
 
 names_are : (c : Contents) (client file other : List ℕ) (i j : InterfaceText) → c client ≡ Some file → HoldsOnly (IsJudged file) (accepted i) → c client ≡ Some other → IsJudged other (accepted j) → j ≡ i
 names_are c client file other i j is judged own also = ap (λ (v : Verdict). names_in v j) (of_file c client file other (accepted i) (accepted j) is judged own also)
 
-only_apart : (c : Contents) (name file : List ℕ) (s : ScriptText) (i : InterfaceText) (other : LoadAnswer) → c s.client ≡ Some file → HoldsOnly (IsJudged file) (accepted i) → (Agree s i → ⊥) → Left c name s other → other ≡ refused (refusal_line name BAD_VALUE)
+only_apart : (c : Contents) (name file : List ℕ) (s : ScriptText) (i : InterfaceText) (other : LoadAnswer) → c s.client ≡ Some file → HoldsOnly (IsJudged file) (accepted i) → (Agree s i → ⊥) → Left c name s other → other ≡ refused (refusal_line name (script_fault BadValue))
 only_apart c name file s i other is judged un (missing gone) = absurd (there c s.client file is gone)
 only_apart c name file s i other is judged un (bad_file f w own also) = absurd (unlike w i (sym (of_file c s.client file f (accepted i) (verdict.refused w) is judged own also)))
 only_apart c name file s i other is judged un (apart f j own also also_un) = refl
@@ -102,7 +106,7 @@ by_agreement c name text file s i is form found judged (inl agree) = (
   },
 )
 by_agreement c name text file s i is form found judged (inr un) = (
-  refused (refusal_line name BAD_VALUE),
+  refused (refusal_line name (script_fault BadValue)),
   record {
     holds = bad_value text file s i is form found judged.holds un;
     only = λ other given. only_apart c name file s i other found judged un (left_of c name text s other is form given);
@@ -112,7 +116,7 @@ by_agreement c name text file s i is form found judged (inr un) = (
 by_verdict : (c : Contents) (name text file : List ℕ) (s : ScriptText) (v : Verdict) → c name ≡ Some text → IsScriptText s text → c s.client ≡ Some file → HoldsOnly (IsJudged file) v → OneAnswer c name
 by_verdict c name text file s (accepted i) is form found judged = by_agreement c name text file s i is form found judged (some_agreement s i)
 by_verdict c name text file s (verdict.refused what) is form found judged = (
-  refused (refusal_line s.client what),
+  refused (refusal_line s.client (file_fault what)),
   record {
     holds = bad_interface text file what s is form found judged.holds;
     only = λ other given. only_bad c name file what s other found judged (left_of c name text s other is form given);
@@ -131,12 +135,12 @@ by_client c name text s None is form none = (
 
 by_form : (c : Contents) (name text : List ℕ) → c name ≡ Some text → ((s : ScriptText) × IsScriptText s text) ⊎ ((s : ScriptText) → IsScriptText s text → ⊥) → OneAnswer c name
 by_form c name text is (inl found) = by_client c name text found.0 (c found.0.client) is found.1 refl
-by_form c name text is (inr none) = (refused (refusal_line name BAD_SCRIPT), record { holds = bad_script text is none; only = only_this })
+by_form c name text is (inr none) = (refused (refusal_line name (script_fault Form)), record { holds = bad_script text is none; only = only_this })
   where
     no : (other : List ℕ) (s : ScriptText) → c name ≡ Some other → IsScriptText s other → ⊥
     no other s own form = none s (subst (IsScriptText s) (one_text c name other text own is) form)
 
-    only_this : (other : LoadAnswer) → Loads c name other → other ≡ refused (refusal_line name BAD_SCRIPT)
+    only_this : (other : LoadAnswer) → Loads c name other → other ≡ refused (refusal_line name (script_fault Form))
     only_this other (no_script gone) = absurd (there c name text is gone)
     only_this other (bad_script t own also) = refl
     only_this other (no_interface t s own form gone) = absurd (no t s own form)

@@ -1,11 +1,11 @@
 -- Bytes are a script or none, and all scripts that they are mean the same.
 use Rattle.std.proofs.Common.{◌≡◌, ◌⊎◌, inl, inr, ℕ, List, Option, Some, None, refl, sym, ap, ◌∙◌, map}
 use Rattle.std.specs.Str.Parse.{digits_value}
-use Rattle.session.specs.Reading.{EventValue, event_meant}
-use Rattle.session.specs.ScriptSteps.{HeaderValue, script_at}
-use Rattle.session.specs.ScriptText.{ScriptText, object_id, IsScriptText}
-use Rattle.session.proofs.Readers.{some_is}
-use Rattle.session.proofs.ScriptLaws.{meaning, again, takes, id_is}
+use Rattle.script_text.specs.Reading.{EventValue, event_meant}
+use Rattle.script_text.specs.ScriptSteps.{HeaderValue, script_at}
+use Rattle.script_text.specs.ScriptText.{ScriptText, object_id, IsScriptText}
+use Rattle.script_text.proofs.Readers.{some_is}
+use Rattle.script_text.proofs.ScriptLaws.{meaning, again, takes, id_is}
 
 -- two scripts mean the same
 pub record Alike (s t : ScriptText) : Type 0 where

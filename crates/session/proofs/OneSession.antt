@@ -3,14 +3,14 @@ use Rattle.std.proofs.Common.{◌≡◌, ◌⊎◌, inl, inr, ℕ, Bool, true, f
 use Rattle.std.specs.List.{AllByRecursion}
 use Rattle.std.specs.Str.{bytes_eq}
 use Rattle.std.proofs.lemmas.Slice.Eq.{bytes_eq-Decides}
-use Rattle.session.specs.declared.loaded.Event.{Event}
+use Rattle.session_model.specs.declared.loaded.Event.{Event}
 use Rattle.session.specs.InterfaceFile.{InterfaceText}
 use Rattle.session.specs.Loading.{Agree, IsParameter, IsEventOf, events_from, loaded_of}
-use Rattle.session.specs.Reading.{EventValue, event_meant}
-use Rattle.session.specs.ScriptText.{ScriptText, EventText}
-use Rattle.session.specs.SessionSteps.{place_in, events_in}
+use Rattle.script_text.specs.Reading.{EventValue, event_meant}
+use Rattle.script_text.specs.ScriptText.{ScriptText, EventText}
+use Rattle.session.specs.SessionSteps.{index_in, events_in}
 use Rattle.session.proofs.OneScript.{Alike}
-use Rattle.session.proofs.SessionLaws.{place_found, place_made, events_found, events_made}
+use Rattle.session.proofs.SessionLaws.{index_found, index_made, events_found, events_made}
 
 -- a statement holds or not
 abbrev Decided : Type 0 → Type 0
@@ -29,11 +29,11 @@ same_bytes a b = by_test (bytes_eq a b) refl
     by_test false e = inr (λ same. let yes = (bytes_eq-Decides a b).1 same in cc)
 
 parameter : (i : InterfaceText) (name : List ℕ) → Decided (IsParameter i name)
-parameter i name = by_place (place_in i name) refl
+parameter i name = by_place (index_in i name) refl
   where
-    by_place : (o : Option ℕ) → place_in i name ≡ o → Decided (IsParameter i name)
-    by_place (Some k) e = inl (place_found i name k e).0
-    by_place None e = inr (λ is. let some = place_made i name is in cc)
+    by_place : (o : Option ℕ) → index_in i name ≡ o → Decided (IsParameter i name)
+    by_place (Some k) e = inl (index_found i name k e).0
+    by_place None e = inr (λ is. let some = index_made i name is in cc)
 
 events_of : (i : InterfaceText) (events : List EventText) → Decided (AllByRecursion (IsEventOf i) events)
 events_of i events = by_events (events_in i.func 1 (map event_meant events)) refl

@@ -1,5 +1,5 @@
 -- Each interface file is judged in one way, and in no other.
-use Rattle.std.proofs.Common.{◌≡◌, ◌<◌, ◌≤◌, ◌⊎◌, inl, inr, ℕ, List, length, drop, Option, Some, None, refl, sym, ◌∙◌, codes, ⊎_elim}
+use Rattle.std.proofs.Common.{◌≡◌, ◌<◌, ◌≤◌, ◌⊎◌, inl, inr, ℕ, List, length, drop, Option, Some, None, refl, sym, ◌∙◌, ⊎_elim}
 use Rattle.std.specs.Prelude.{Result, Ok, Err}
 use Rattle.std.proofs.lemmas.Bool.{cases_lt}
 use Rattle.idl_parse.specs.declared.lex_fault.LexFault.TheVariants as lexes
@@ -17,14 +17,16 @@ use Rattle.idl_parse.proofs.OneFault.{one_fault}
 use Rattle.idl_parse.proofs.TextOutcomes as lexing
 use Rattle.idl_parse.proofs.TotalLaws.{some_outcome}
 use Rattle.tars_base.specs.Contents.{HoldsOnly}
-use Rattle.session.specs.InterfaceFile.{MAX_FILE, InterfaceText, Verdict, accepted, refused, IsJudged, interface_in}
+use Rattle.script_text.specs.TextLimits.{MAX_FILE}
+use Rattle.session.specs.declared.interface_fault.FileFault.TheVariants.{TooLong, Shape}
+use Rattle.session.specs.InterfaceFile.{InterfaceText, Verdict, accepted, refused, IsJudged, interface_in}
 use Rattle.session.proofs.InterfaceLaws.{Lexed, Parsed, judged_long, judged_lex, judged_parse, judged_shape, judged_names}
 
 abbrev pub OneVerdict : List ℕ → Type 0
 OneVerdict bytes = (v : Verdict) × HoldsOnly (IsJudged bytes) v
 
 by_shape : (bytes : List ℕ) (tokens : List Token) (file : List Entry) → Lexed bytes tokens → Parsed bytes tokens file → (o : Option InterfaceText) → interface_in bytes file ≡ o → OneVerdict bytes
-by_shape bytes tokens file lexed parsed None e = (refused (codes "check 11 0"), judged_shape bytes tokens file lexed parsed e)
+by_shape bytes tokens file lexed parsed None e = (refused Shape, judged_shape bytes tokens file lexed parsed e)
 by_shape bytes tokens file lexed parsed (Some i) e = (accepted i, judged_names bytes tokens file i lexed parsed e)
 
 -- the fault of tokens that stop a reader
@@ -59,4 +61,4 @@ by_tokens bytes within (inr fault) =
     (_, judged_lex bytes (lexes.Bad fault.0 fault.1) within fault.2 (λ tokens are. lexing.not_both bytes tokens fault.0 fault.1 are fault.2) (λ at why f. lexing.one_lex_fault bytes fault.0 at fault.1 why fault.2 f))
 
 pub one_verdict : (bytes : List ℕ) → OneVerdict bytes
-one_verdict bytes = ⊎_elim (λ long. (refused (codes "parse 5 0"), judged_long bytes long)) (λ within. by_tokens bytes within (some_outcome bytes)) (cases_lt MAX_FILE (length bytes))
+one_verdict bytes = ⊎_elim (λ long. (refused TooLong, judged_long bytes long)) (λ within. by_tokens bytes within (some_outcome bytes)) (cases_lt MAX_FILE (length bytes))

@@ -3,15 +3,15 @@ use Rattle.std.proofs.Common.{◌≡◌, ◌≤◌, ℕ, None, List, [], ◌∷�
 use Rattle.std.proofs.lemmas.List.{take-map, take-take}
 use Rattle.std.specs.List.{filter_map}
 use Rattle.wire_words.specs.Packets.{packets_of}
-use Rattle.session.specs.declared.link_log.GotRow.{GotRow}
-use Rattle.session.specs.declared.link_log.LinkLog.{LinkLog}
-use Rattle.session.specs.declared.link_log.SentRow.{SentRow}
+use Rattle.session_model.specs.declared.link_log.GotRow.{GotRow}
+use Rattle.session_model.specs.declared.link_log.LinkLog.{LinkLog}
+use Rattle.session_model.specs.declared.link_log.SentRow.{SentRow}
 use Rattle.session.specs.declared.plan.Plan.{Plan}
-use Rattle.session.specs.declared.report.Report.{Report}
-use Rattle.session.specs.declared.report.RouteStep.{RouteStep}
-use Rattle.session.specs.declared.report.Row.{Row}
+use Rattle.session_model.specs.declared.report.Report.{Report}
+use Rattle.session_model.specs.declared.report.RouteStep.{RouteStep}
+use Rattle.session_model.specs.declared.report.Row.{Row}
 use Rattle.session.specs.Courses.{Course, opened, received, answer_frame, joined, answered_calls}
-use Rattle.session.specs.Sessions.{NODE}
+use Rattle.session_model.specs.Sessions.{NODE}
 use Rattle.session.specs.Planned.{row_of, picked_step, reported_step, got_rows, link_log, report_of}
 use Rattle.session.specs.Tracks.{Tracks, IsOpened, answer_frames}
 use Rattle.session.proofs.FramesArePackets.{answers_are_packets}

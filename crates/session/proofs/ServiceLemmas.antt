@@ -11,7 +11,7 @@ use Rattle.tars_codec.specs.Written.{written}
 use Rattle.session.specs.declared.rpc_packet.response.Response.{Response}
 use Rattle.session.specs.declared.service.Service.{Service}
 use Rattle.session.specs.Services.{IsService, AreTwoInts, Asks, reply_to, request_of, response_of, response_with}
-use Rattle.session.specs.Replies.{Reply, sum, code, UNKNOWN, added, argument}
+use Rattle.session_model.specs.Replies.{Reply, sum, code, UNKNOWN, added, argument}
 use Rattle.session.specs.RpcPackets.{MAX_TEXT, IsSendable, IsAnswerable}
 use Rattle.session.proofs.PacketLengths.{num_short}
 

@@ -8,63 +8,63 @@ use Rattle.std.proofs.lemmas.Bool.{and_parts, and_from, cond-true}
 use Rattle.std.proofs.lemmas.Slice.Eq.{bytes_eq-Decides}
 use Rattle.std.proofs.lemmas.Option.{cond_some}
 use Rattle.tars_model.specs.declared.value.Value.{Num}
-use Rattle.session.specs.declared.loaded.Event.{Event}
-use Rattle.session.specs.declared.loaded.Event.TheVariants.{Call, Serve, Work, Deliver, Close}
-use Rattle.session.specs.declared.loaded.Loaded.{Loaded}
-use Rattle.session.specs.declared.loaded.Rule.{Rule}
-use Rattle.session.specs.declared.loaded.Rule.TheVariants.{Add}
-use Rattle.session.specs.declared.script.ScriptText.{ScriptText as ScriptStruct}
+use Rattle.session_model.specs.declared.loaded.Event.{Event}
+use Rattle.session_model.specs.declared.loaded.Event.TheVariants.{Call, Serve, Work, Deliver, Close}
+use Rattle.session_model.specs.declared.loaded.Loaded.{Loaded}
+use Rattle.session_model.specs.declared.loaded.Rule.{Rule}
+use Rattle.session_model.specs.declared.loaded.Rule.TheVariants.{Add}
+use Rattle.script_text.specs.declared.script.ScriptText.{ScriptText as ScriptStruct}
 use Rattle.session.specs.InterfaceFile.{InterfaceText}
-use Rattle.session.specs.Loading.{two_way_call, Agree, IsParameter, IsEventOf, events_from, place_of, loaded_of}
-use Rattle.session.specs.Reading.{int_of}
+use Rattle.session.specs.Loading.{two_way_call, Agree, IsParameter, IsEventOf, events_from, index_of, loaded_of}
+use Rattle.script_text.specs.Reading.{int_of}
 use Rattle.tars_model.specs.Fits.{IsInt, is_int}
 use Rattle.tars_model.proofs.Ints.{int_test, int_passes}
-use Rattle.session.specs.Reading.{EventValue, event_of, event_meant, Reads}
-use Rattle.session.specs.Reading as value
+use Rattle.script_text.specs.Reading.{EventValue, event_of, event_meant, Reads}
+use Rattle.script_text.specs.Reading as value
 use Rattle.facts.specs.OptionSteps.{◌>>=◌}
-use Rattle.session.specs.Scan.{Gives}
-use Rattle.session.specs.ScriptText.{ScriptText, EventText, call, serve, work, deliver, close}
-use Rattle.session.specs.SessionSteps.{place_in, rule_in, call_with, event_in, next_number, events_in, object_in, is_about, session_in}
-use Rattle.session.specs.Sessions.{NODE, func_of_two, schema_of_one}
-use Rattle.session.specs.Words.{number_of}
-use Rattle.session.proofs.Readers.{bind_some, some_is, chosen}
+use Rattle.script_text.specs.Scan.{Gives}
+use Rattle.script_text.specs.ScriptText.{ScriptText, EventText, call, serve, work, deliver, close}
+use Rattle.session.specs.SessionSteps.{index_in, rule_in, call_with, event_in, next_number, events_in, object_in, is_about, session_in}
+use Rattle.session_model.specs.Sessions.{NODE, func_of_two, schema_of_one}
+use Rattle.script_text.specs.Words.{number_of}
+use Rattle.script_text.proofs.Readers.{bind_some, some_is, chosen}
 
 -- ---- places
 
-pub place_found : (i : InterfaceText) (name : List ℕ) (k : ℕ) → place_in i name ≡ Some k → IsParameter i name × (k ≡ place_of i name)
-unfolding place_in
-place_found i name k e = by_first (bytes_eq name i.first) refl
+pub index_found : (i : InterfaceText) (name : List ℕ) (k : ℕ) → index_in i name ≡ Some k → IsParameter i name × (k ≡ index_of i name)
+unfolding index_in
+index_found i name k e = by_first (bytes_eq name i.first) refl
   where
-    by_second : (b : Bool) → bytes_eq name i.second ≡ b → bytes_eq name i.first ≡ false → IsParameter i name × (k ≡ place_of i name)
+    by_second : (b : Bool) → bytes_eq name i.second ≡ b → bytes_eq name i.first ≡ false → IsParameter i name × (k ≡ index_of i name)
     by_second true second first = (inr ((bytes_eq-Decides name i.second).0 second), rw first (some_is k 1 (sym (rw (first, second) at e))))
     by_second false second first = absurd (let none : Some k ≡ None = sym (rw (first, second) at e) in cc)
 
-    by_first : (b : Bool) → bytes_eq name i.first ≡ b → IsParameter i name × (k ≡ place_of i name)
+    by_first : (b : Bool) → bytes_eq name i.first ≡ b → IsParameter i name × (k ≡ index_of i name)
     by_first true first = (inl ((bytes_eq-Decides name i.first).0 first), rw first (some_is k 0 (sym (rw first at e))))
     by_first false first = by_second (bytes_eq name i.second) refl first
 
-pub place_made : (i : InterfaceText) (name : List ℕ) → IsParameter i name → place_in i name ≡ Some (place_of i name)
-unfolding place_in
-place_made i name is = by_first (bytes_eq name i.first) refl is
+pub index_made : (i : InterfaceText) (name : List ℕ) → IsParameter i name → index_in i name ≡ Some (index_of i name)
+unfolding index_in
+index_made i name is = by_first (bytes_eq name i.first) refl is
   where
-    by_first : (b : Bool) → bytes_eq name i.first ≡ b → IsParameter i name → place_in i name ≡ Some (place_of i name)
+    by_first : (b : Bool) → bytes_eq name i.first ≡ b → IsParameter i name → index_in i name ≡ Some (index_of i name)
     by_first true first is = rw first refl
     by_first false first (inl e) = absurd (let test : bytes_eq name i.first ≡ true = (bytes_eq-Decides name i.first).1 e in cc)
     by_first false first (inr e) = rw (first, (bytes_eq-Decides name i.second).1 e) refl
 
 rule_found : (i : InterfaceText) (left right : List ℕ) (rule : Rule) → rule_in i left right ≡ Some rule
-    → IsParameter i left × IsParameter i right × (rule ≡ Add (place_of i left) (place_of i right))
+    → IsParameter i left × IsParameter i right × (rule ≡ Add (index_of i left) (index_of i right))
 unfolding rule_in
 rule_found i left right rule e =
-    let a = bind_some (place_in i left) (λ a. place_in i right >>= λ b. Some (Add a b)) rule e in
-    let b = bind_some (place_in i right) (λ b. Some (Add a.0 b)) rule a.2 in
-    let l = place_found i left a.0 a.1 in
-    let r = place_found i right b.0 b.1 in
+    let a = bind_some (index_in i left) (λ a. index_in i right >>= λ b. Some (Add a b)) rule e in
+    let b = bind_some (index_in i right) (λ b. Some (Add a.0 b)) rule a.2 in
+    let l = index_found i left a.0 a.1 in
+    let r = index_found i right b.0 b.1 in
     (l.0, r.0, sym (some_is (Add a.0 b.0) rule b.2) ∙ cc (l.1, r.1))
 
-rule_made : (i : InterfaceText) (left right : List ℕ) → IsParameter i left → IsParameter i right → rule_in i left right ≡ Some (Add (place_of i left) (place_of i right))
+rule_made : (i : InterfaceText) (left right : List ℕ) → IsParameter i left → IsParameter i right → rule_in i left right ≡ Some (Add (index_of i left) (index_of i right))
 unfolding rule_in
-rule_made i left right l r = rw (place_made i left l, place_made i right r) refl
+rule_made i left right l r = rw (index_made i left l, index_made i right r) refl
 
 -- ---- numbers
 
@@ -181,7 +181,7 @@ made_of i r rule events =
       events = events;
     }
 
-same_session : (i : InterfaceText) (r : ScriptStruct) (s : ScriptText) (rule : Rule) (events : List Event) → Reads r s → rule ≡ Add (place_of i s.left) (place_of i s.right) → events ≡ events_from 1 s.events → made_of i r rule events ≡ loaded_of s i
+same_session : (i : InterfaceText) (r : ScriptStruct) (s : ScriptText) (rule : Rule) (events : List Event) → Reads r s → rule ≡ Add (index_of i s.left) (index_of i s.right) → events ≡ events_from 1 s.events → made_of i r rule events ≡ loaded_of s i
 unfolding object_in
 same_session i r s rule events reads rule_is events_are = rw (rule_is, events_are, reads.id, reads.host, reads.port, reads.timeout) refl
 

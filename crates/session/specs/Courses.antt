@@ -4,22 +4,22 @@ use Rattle.std.specs.List.{flat_map, list_any}
 use Rattle.tars_model.specs.declared.value.Value.{Value, Num}
 use Rattle.wire_words.specs.Packets.{packets_of}
 use Rattle.session.specs.RpcPackets.{request_frame, response_frame}
-use Rattle.session.specs.declared.link_log.GotFate.{GotFate}
-use Rattle.session.specs.declared.link_log.GotFate.TheVariants.{Used, Late}
-use Rattle.session.specs.declared.loaded.CallSpec.{CallSpec}
-use Rattle.session.specs.declared.loaded.Event.{Event}
-use Rattle.session.specs.declared.loaded.Event.TheVariants.{Call, Serve, Work, Deliver, Close}
-use Rattle.session.specs.declared.report.CallId.{CallId}
-use Rattle.session.specs.declared.report.End.{End}
-use Rattle.session.specs.declared.report.End.TheVariants.{Value as ValueEnd, Code, Closed, Refused}
-use Rattle.session.specs.declared.report.PickNote.{PickNote}
-use Rattle.session.specs.declared.report.Refusal.{Refusal}
-use Rattle.session.specs.declared.report.Refusal.TheVariants as refusal
-use Rattle.session.specs.declared.pending.Pending.{Pending}
+use Rattle.session_model.specs.declared.link_log.GotFate.{GotFate}
+use Rattle.session_model.specs.declared.link_log.GotFate.TheVariants.{Used, Late}
+use Rattle.session_model.specs.declared.loaded.CallSpec.{CallSpec}
+use Rattle.session_model.specs.declared.loaded.Event.{Event}
+use Rattle.session_model.specs.declared.loaded.Event.TheVariants.{Call, Serve, Work, Deliver, Close}
+use Rattle.session_model.specs.declared.report.CallId.{CallId}
+use Rattle.session_model.specs.declared.report.End.{End}
+use Rattle.session_model.specs.declared.report.End.TheVariants.{Value as ValueEnd, Code, Closed, Refused}
+use Rattle.session_model.specs.declared.report.PickNote.{PickNote}
+use Rattle.session_model.specs.declared.report.Refusal.{Refusal}
+use Rattle.session_model.specs.declared.report.Refusal.TheVariants as refusal
+use Rattle.session.specs.declared.call_state.CallState.{CallState}
 use Rattle.session.specs.declared.service.Service.{Service}
-use Rattle.session.specs.Replies.{Reply, sum, code}
+use Rattle.session_model.specs.Replies.{Reply, sum, code}
 use Rattle.session.specs.Services.{reply_to, request_of, response_of}
-use Rattle.session.specs.Sessions.{WIDTH, LINK, live_node}
+use Rattle.session_model.specs.Sessions.{WIDTH, LINK, live_node}
 
 -- What has happened.
 
@@ -27,7 +27,7 @@ use Rattle.session.specs.Sessions.{WIDTH, LINK, live_node}
 -- many bytes of the frames sent the node has read, how many of the requests in them it has answered,
 -- how many bytes of its answers the caller has read; what became of each packet that the caller got.
 pub record Course : Type 0 where
-  pub calls : List Pending
+  pub calls : List CallState
   pub args : List (List Value)
   pub served : ℕ
   pub answered : ℕ
@@ -48,7 +48,7 @@ abbrev pub with_id : ℕ → List Value → Option CallId → List Opened
 with_id call args None = []
 with_id call args (Some id) = record { call = call; args = args; id = id.0 } ∷ []
 
-abbrev pub opened_among : List Pending → List (List Value) → List Opened
+abbrev pub opened_among : List CallState → List (List Value) → List Opened
 opened_among [] args = []
 opened_among (call ∷ calls) [] = []
 opened_among (call ∷ calls) (args ∷ more) = with_id call.call args call.id ++ opened_among calls more
@@ -87,15 +87,15 @@ received s c = packets_of (take c.delivered (answers_stream s c))
 
 -- A call: full where so many are in flight, else a node is picked; refused where the session was closed.
 -- a call that was not sent, and one that was
-abbrev pub not_sent : CallSpec → Option PickNote → Refusal → Pending
+abbrev pub not_sent : CallSpec → Option PickNote → Refusal → CallState
 not_sent spec pick why =
     record { call = spec.call; line = spec.line; func = spec.func; two_way = spec.two_way; pick = pick; id = None; end = Some (Refused why) }
 
-abbrev pub open_under : CallSpec → ℕ → Pending
+abbrev pub open_under : CallSpec → ℕ → CallState
 open_under spec id =
     record { call = spec.call; line = spec.line; func = spec.func; two_way = spec.two_way; pick = live_node; id = Some (record { 0 = id }); end = None }
 
-unfoldable pub began : Course → CallSpec → Pending
+unfoldable pub began : Course → CallSpec → CallState
 began c spec =
     if nat_le WIDTH (length (opened c)) then not_sent spec None refusal.Full
     else (if c.closed then not_sent spec live_node (refusal.Closed 0)
@@ -110,16 +110,16 @@ abbrev pub has_id : ℕ → Option CallId → Bool
 has_id id None = false
 has_id id (Some own) = own.0 == id
 
-abbrev pub is_open_under : ℕ → Pending → Bool
+abbrev pub is_open_under : ℕ → CallState → Bool
 is_open_under id call = has_id id call.id && is_none call.end
 
-abbrev pub settle : ℕ → End → List Pending → List Pending
+abbrev pub settle : ℕ → End → List CallState → List CallState
 settle id end [] = []
 settle id end (call ∷ calls) =
     if is_open_under id call then record call { end = Some end } ∷ calls else call ∷ settle id end calls
 
 -- what becomes of a packet with this id
-abbrev pub fate_of : ℕ → List Pending → GotFate
+abbrev pub fate_of : ℕ → List CallState → GotFate
 fate_of id calls = if list_any (is_open_under id) calls then Used (record { 0 = id }) else Late 0
 
 -- the next packet that the caller gets is the answer to this call
@@ -130,7 +130,7 @@ got s c o =
       fates = c.fates ++ fate_of o.id c.calls ∷ [];
     }
 
-abbrev pub closed_call : Pending → Pending
+abbrev pub closed_call : CallState → CallState
 closed_call call = if is_none call.end then record call { end = Some Closed } else call
 
 -- What an event makes of what has happened. There is one node, and each read takes all that waits.

@@ -21,8 +21,9 @@ use Rattle.idl_parse.specs.Tokens.{Tokens, IsLexFault}
 use Rattle.idl_parse.specs.Grammar.{nesting_limit, IsFile}
 use Rattle.idl_parse.specs.Faults.{IsFault}
 use Rattle.session.specs.declared.interface_fault.FileFault.{FileFault}
+use Rattle.session.specs.declared.interface_file.InterfaceText.{InterfaceText as InterfaceStruct}
 use Rattle.session.specs.declared.interface_fault.FileFault.TheVariants.{TooLong, Lex, Parse, Shape}
-use Rattle.session.specs.TextLimits.{MAX_FILE}
+use Rattle.script_text.specs.TextLimits.{MAX_FILE}
 
 -- the names that a script needs of an interface file
 pub record InterfaceText : Type 0 where
@@ -31,6 +32,10 @@ pub record InterfaceText : Type 0 where
   pub func : List ℕ
   pub first : List ℕ
   pub second : List ℕ
+
+-- those that the struct of an interface file holds
+abbrev pub names_of : InterfaceStruct → InterfaceText
+names_of r = record { module_name = r.module.now; interface = r.interface.now; func = r.func.now; first = r.first.now; second = r.second.now }
 
 -- One module with one interface with one function of two ints.
 
@@ -69,7 +74,7 @@ two_ints _ = None
 unfoldable pub int_params : FuncTree → Option (Span × Span)
 int_params f = if returns_int f.ret then two_ints f.params else None
 
--- the text of a name, by its place
+-- the text of a name, by its span
 unfoldable pub text_at : List ℕ → Span → List ℕ
 text_at text span = if nat_le span.start span.end && nat_le span.end (length text) then slice_range text span.start span.end else []
 

@@ -9,7 +9,7 @@ use Rattle.session.specs.declared.interface_fault.InterfaceFault.{InterfaceFault
 use Rattle.session.specs.declared.interface_fault.InterfaceFault.TheVariants.{Refused, Memory}
 use Rattle.session.specs.declared.interface_file.InterfaceText.{InterfaceText as InterfaceStruct}
 use Rattle.session.specs.InterfaceFile.{Verdict, accepted, refused}
-use Rattle.session.specs.Reading.{names_of}
+use Rattle.session.specs.InterfaceFile.{names_of}
 
 -- the verdict of an answer; want of memory has none
 abbrev pub verdict_of : Result InterfaceStruct InterfaceFault → Option Verdict

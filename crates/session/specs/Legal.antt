@@ -5,26 +5,26 @@ use Rattle.tars_model.specs.Members.{arguments_of, reply_members_of}
 use Rattle.tars_model.specs.declared.value.Value.{Num}
 use Rattle.tars_codec.specs.Written.{written}
 use Rattle.session.specs.RpcPackets.{request_frame, response_frame}
-use Rattle.session.specs.Replies.{Reply, sum, code, reply_by}
-use Rattle.session.specs.Sessions.{WIDTH, NODE, LINK, live_node, func_of, node_of, rule_of}
-use Rattle.session.specs.declared.link_log.GotFate.TheVariants.{Used}
-use Rattle.session.specs.declared.link_log.GotRow.{GotRow}
-use Rattle.session.specs.declared.link_log.LinkLog.{LinkLog}
-use Rattle.session.specs.declared.link_log.SentRow.{SentRow}
-use Rattle.session.specs.declared.loaded.CallSpec.{CallSpec}
-use Rattle.session.specs.declared.loaded.Event.{Event}
-use Rattle.session.specs.declared.loaded.Event.TheVariants.{Call, Serve, Work, Deliver, Close}
-use Rattle.session.specs.declared.loaded.Loaded.{Loaded}
-use Rattle.session.specs.declared.report.CallId.{CallId}
-use Rattle.session.specs.declared.report.End.{End}
-use Rattle.session.specs.declared.report.End.TheVariants.{Value as ValueEnd, Code, Closed, Refused}
-use Rattle.session.specs.declared.report.PickNote.{PickNote}
-use Rattle.session.specs.declared.report.Refusal.{Refusal}
-use Rattle.session.specs.declared.report.Refusal.TheVariants as refusal
-use Rattle.session.specs.declared.report.Report.{Report}
-use Rattle.session.specs.declared.report.RouteStep.{RouteStep}
-use Rattle.session.specs.declared.report.RouteStep.TheVariants.{Picked, Reported}
-use Rattle.session.specs.declared.report.Row.{Row}
+use Rattle.session_model.specs.Replies.{Reply, sum, code, reply_by}
+use Rattle.session_model.specs.Sessions.{WIDTH, NODE, LINK, live_node, func_of, node_of, rule_of}
+use Rattle.session_model.specs.declared.link_log.GotFate.TheVariants.{Used}
+use Rattle.session_model.specs.declared.link_log.GotRow.{GotRow}
+use Rattle.session_model.specs.declared.link_log.LinkLog.{LinkLog}
+use Rattle.session_model.specs.declared.link_log.SentRow.{SentRow}
+use Rattle.session_model.specs.declared.loaded.CallSpec.{CallSpec}
+use Rattle.session_model.specs.declared.loaded.Event.{Event}
+use Rattle.session_model.specs.declared.loaded.Event.TheVariants.{Call, Serve, Work, Deliver, Close}
+use Rattle.session_model.specs.declared.loaded.Loaded.{Loaded}
+use Rattle.session_model.specs.declared.report.CallId.{CallId}
+use Rattle.session_model.specs.declared.report.End.{End}
+use Rattle.session_model.specs.declared.report.End.TheVariants.{Value as ValueEnd, Code, Closed, Refused}
+use Rattle.session_model.specs.declared.report.PickNote.{PickNote}
+use Rattle.session_model.specs.declared.report.Refusal.{Refusal}
+use Rattle.session_model.specs.declared.report.Refusal.TheVariants as refusal
+use Rattle.session_model.specs.declared.report.Report.{Report}
+use Rattle.session_model.specs.declared.report.RouteStep.{RouteStep}
+use Rattle.session_model.specs.declared.report.RouteStep.TheVariants.{Picked, Reported}
+use Rattle.session_model.specs.declared.report.Row.{Row}
 use Rattle.session.specs.declared.rpc_packet.request.Request.{Request}
 
 -- The calls of a script.
@@ -115,7 +115,7 @@ picked_of row = option_map (λ (note : PickNote). Picked row.call note.node note
 abbrev pub reported_of : Row → Option RouteStep
 reported_of row = option_map (λ (packet : ℕ). Reported row.call NODE 0 true 0) (packet_of row.end)
 
--- What was sent: the call's arguments, to the one object, under the id that is the frame's place from 1.
+-- What was sent: the call's arguments, to the one object, under the id that is the frame's number from 1.
 
 abbrev pub request_of_call : Loaded → CallSpec → CallId → Request
 request_of_call l spec id =
@@ -156,7 +156,7 @@ IsReplied l got row (Code link packet ret) = (link ≡ LINK) × (ret ≢ pos 0) 
 IsReplied l got row Closed = Unit {0}
 IsReplied l got row (Refused why) = Unit {0}
 
--- The parts of a report. Rows and scripted calls go by their places from 0.
+-- The parts of a report. Rows and scripted calls go by their indices from 0.
 
 abbrev pub IsRowAt : List Row → ℕ → Row → Type 0
 IsRowAt rows k row = slice_get rows k ≡ Some row
@@ -181,7 +181,7 @@ pub record AreRefused (l : Loaded) (rows : List Row) : Type 0 where
 pub record AreSent (l : Loaded) (rows : List Row) (sent : List SentRow) : Type 0 where
   -- the frames are those of the calls with an id, in order
   pub calls : map (λ (frame : SentRow). frame.call) sent ≡ map (λ (row : Row). row.call) (filter was_sent rows)
-  -- each call with an id was sent as its request, in the place of its id
+  -- each call with an id was sent as its request, as the frame of its id's number
   pub requests :
       (k : ℕ) (row : Row) (call : Scripted) (id : CallId) → IsRowAt rows k row → IsCallAt l k call
       → row.id ≡ Some id → IsSentAs l sent call.spec id

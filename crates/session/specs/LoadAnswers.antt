@@ -5,7 +5,7 @@ use Rattle.tars_base.specs.declared.fault.ReadFault.{ReadFault}
 use Rattle.tars_base.specs.declared.fault.ReadFault.TheVariants as reads
 use Rattle.session.specs.declared.load_fault.LoadFault.{LoadFault}
 use Rattle.session.specs.declared.load_fault.LoadFault.TheVariants.{Refused, Read, Memory}
-use Rattle.session.specs.declared.loaded.Loaded.{Loaded}
+use Rattle.session_model.specs.declared.loaded.Loaded.{Loaded}
 use Rattle.session.specs.declared.interface_fault.InterfaceFault.{InterfaceFault}
 use Rattle.session.specs.declared.interface_fault.InterfaceFault.TheVariants as interfaces
 use Rattle.session.specs.Loading.{LoadAnswer, loaded, refused, Loads}

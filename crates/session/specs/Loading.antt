@@ -5,20 +5,20 @@ use Rattle.std.specs.Str.{bytes_eq}
 use Rattle.std.specs.Str.Parse.{digits_value}
 use Rattle.tars_base.specs.Contents.{Contents}
 use Rattle.tars_model.specs.declared.value.Value.{Value, Num}
-use Rattle.session.specs.declared.loaded.CallSpec.{CallSpec}
-use Rattle.session.specs.declared.loaded.Event.{Event}
-use Rattle.session.specs.declared.loaded.Event.TheVariants.{Call, Serve, Work, Deliver, Close}
-use Rattle.session.specs.declared.loaded.Loaded.{Loaded}
-use Rattle.session.specs.declared.loaded.Rule.TheVariants.{Add}
+use Rattle.session_model.specs.declared.loaded.CallSpec.{CallSpec}
+use Rattle.session_model.specs.declared.loaded.Event.{Event}
+use Rattle.session_model.specs.declared.loaded.Event.TheVariants.{Call, Serve, Work, Deliver, Close}
+use Rattle.session_model.specs.declared.loaded.Loaded.{Loaded}
+use Rattle.session_model.specs.declared.loaded.Rule.TheVariants.{Add}
 use Rattle.session.specs.declared.interface_fault.FileFault.{FileFault}
 use Rattle.session.specs.declared.refused_text.ScriptFault.TheVariants.{Form, Value as BadValue}
 use Rattle.session.specs.InterfaceFile.{InterfaceText, IsJudged}
 use Rattle.session.specs.InterfaceFile as verdict
 use Rattle.session.specs.Refusals.{refusal_line, script_fault, file_fault}
-use Rattle.session.specs.ScriptText.{ScriptText, IsScriptText, EventText, call, serve, work, deliver, close, object_id}
-use Rattle.session.specs.Sessions.{NODE, func_of_two, schema_of_one}
+use Rattle.script_text.specs.ScriptText.{ScriptText, IsScriptText, EventText, call, serve, work, deliver, close, object_id}
+use Rattle.session_model.specs.Sessions.{NODE, func_of_two, schema_of_one}
 use Rattle.tars_model.specs.Fits.{IsInt}
-use Rattle.session.specs.Words.{number_of}
+use Rattle.script_text.specs.Words.{number_of}
 
 -- What a script and an interface file have to agree on.
 
@@ -54,9 +54,9 @@ events_from n (work ∷ events) = Work NODE ∷ events_from n events
 events_from n (deliver ∷ events) = Deliver NODE None ∷ events_from n events
 events_from n (close ∷ events) = Close ∷ events_from n events
 
--- the place of a parameter among the arguments
-abbrev pub place_of : InterfaceText → List ℕ → ℕ
-place_of i name = if bytes_eq name i.first then 0 else 1
+-- the index of a parameter among the arguments
+abbrev pub index_of : InterfaceText → List ℕ → ℕ
+index_of i name = if bytes_eq name i.first then 0 else 1
 
 abbrev pub loaded_of : ScriptText → InterfaceText → Loaded
 loaded_of s i =
@@ -74,7 +74,7 @@ loaded_of s i =
                 }
                 ∷ [];
           };
-      rules = record { func = 0; rule = Add (place_of i s.left) (place_of i s.right) } ∷ [];
+      rules = record { func = 0; rule = Add (index_of i s.left) (index_of i s.right) } ∷ [];
       events = events_from 1 s.events;
     }
 

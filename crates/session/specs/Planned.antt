@@ -1,27 +1,27 @@
 -- The report of a script (docs/SCRIPTS.md, "Reports").
 use Rattle.std.specs.Prelude.{ℕ, true, Option, Some, None, unwrap_or, List, [], ◌∷◌, ◌++◌, map}
 use Rattle.std.specs.List.{filter_map}
-use Rattle.session.specs.declared.link_log.GotFate.{GotFate}
-use Rattle.session.specs.declared.link_log.GotRow.{GotRow}
-use Rattle.session.specs.declared.link_log.LinkLog.{LinkLog}
-use Rattle.session.specs.declared.link_log.SentRow.{SentRow}
-use Rattle.session.specs.declared.loaded.Loaded.{Loaded}
-use Rattle.session.specs.declared.pending.Pending.{Pending}
-use Rattle.session.specs.declared.report.End.{End}
-use Rattle.session.specs.declared.report.End.TheVariants.{Value as ValueEnd, Code, Closed}
-use Rattle.session.specs.declared.report.PickNote.{PickNote}
-use Rattle.session.specs.declared.report.Report.{Report}
-use Rattle.session.specs.declared.report.RouteStep.{RouteStep}
-use Rattle.session.specs.declared.report.RouteStep.TheVariants.{Picked, Reported}
-use Rattle.session.specs.declared.report.Row.{Row}
+use Rattle.session_model.specs.declared.link_log.GotFate.{GotFate}
+use Rattle.session_model.specs.declared.link_log.GotRow.{GotRow}
+use Rattle.session_model.specs.declared.link_log.LinkLog.{LinkLog}
+use Rattle.session_model.specs.declared.link_log.SentRow.{SentRow}
+use Rattle.session_model.specs.declared.loaded.Loaded.{Loaded}
+use Rattle.session.specs.declared.call_state.CallState.{CallState}
+use Rattle.session_model.specs.declared.report.End.{End}
+use Rattle.session_model.specs.declared.report.End.TheVariants.{Value as ValueEnd, Code, Closed}
+use Rattle.session_model.specs.declared.report.PickNote.{PickNote}
+use Rattle.session_model.specs.declared.report.Report.{Report}
+use Rattle.session_model.specs.declared.report.RouteStep.{RouteStep}
+use Rattle.session_model.specs.declared.report.RouteStep.TheVariants.{Picked, Reported}
+use Rattle.session_model.specs.declared.report.Row.{Row}
 use Rattle.session.specs.declared.service.Service.{Service}
 use Rattle.session.specs.Services.{service_of}
-use Rattle.session.specs.Sessions.{NODE}
+use Rattle.session_model.specs.Sessions.{NODE}
 use Rattle.session.specs.Courses.{Course, Opened, opened, sent_frame, received, after_all}
 
 -- The rows that come of it. What is still open ends as closed.
 
-abbrev pub row_of : Pending → Row
+abbrev pub row_of : CallState → Row
 row_of call =
     record {
       call = call.call;
@@ -40,7 +40,7 @@ abbrev pub got_rows : List (List ℕ) → List GotFate → List GotRow
 got_rows (packet ∷ packets) (fate ∷ fates) = record { packet = packet; fate = fate } ∷ got_rows packets fates
 got_rows _ _ = []
 
-abbrev pub picked_step : Pending → Option RouteStep
+abbrev pub picked_step : CallState → Option RouteStep
 picked_step call = step_of call.pick
   where
     step_of : Option PickNote → Option RouteStep
@@ -48,7 +48,7 @@ picked_step call = step_of call.pick
     step_of (Some note) = Some (Picked call.call note.node note.why 0 0)
 
 -- a collected reply is reported as a success
-abbrev pub reported_step : Pending → Option RouteStep
+abbrev pub reported_step : CallState → Option RouteStep
 reported_step call = step_of call.end
   where
     success : Option RouteStep

@@ -8,14 +8,14 @@ use Rattle.tars_codec.specs.Written.{written}
 use Rattle.session.specs.declared.rpc_packet.request.Request.{Request}
 use Rattle.session.specs.declared.rpc_packet.response.Response.{Response}
 use Rattle.session.specs.RpcPackets.{MAX_TEXT, request_members, response_members, request_frame}
-use Rattle.session.specs.Replies.{Reply, sum, code, reply_by}
-use Rattle.session.specs.Sessions.{func_of, node_of, rule_of}
+use Rattle.session_model.specs.Replies.{Reply, sum, code, reply_by}
+use Rattle.session_model.specs.Sessions.{func_of, node_of, rule_of}
 use Rattle.tars_model.specs.Fits.{IsInt}
-use Rattle.session.specs.declared.loaded.Event.{Event}
-use Rattle.session.specs.declared.loaded.Event.TheVariants.{Call}
-use Rattle.session.specs.declared.loaded.Loaded.{Loaded}
-use Rattle.session.specs.declared.loaded.Rule.{Rule}
-use Rattle.session.specs.declared.loaded.Rule.TheVariants.{Add}
+use Rattle.session_model.specs.declared.loaded.Event.{Event}
+use Rattle.session_model.specs.declared.loaded.Event.TheVariants.{Call}
+use Rattle.session_model.specs.declared.loaded.Loaded.{Loaded}
+use Rattle.session_model.specs.declared.loaded.Rule.{Rule}
+use Rattle.session_model.specs.declared.loaded.Rule.TheVariants.{Add}
 use Rattle.session.specs.declared.service.Service.{Service}
 
 -- What the calls go to.
@@ -63,8 +63,8 @@ pub record IsService (s : Service) : Type 0 where
   pub id_short : length s.id ≤ MAX_TEXT
   pub func_short : length s.func ≤ MAX_TEXT
   pub timeout_small : s.timeout < 2 ^ 31
-  pub left_place : s.left < 2
-  pub right_place : s.right < 2
+  pub left_index : s.left < 2
+  pub right_index : s.right < 2
   pub first : List ℕ
   pub second : List ℕ
   pub arguments_are : s.arguments ≡ required 1 Int first ∷ required 2 Int second ∷ []

@@ -2,31 +2,31 @@
 use Rattle.std.specs.Prelude.{ℕ, ◌+◌, Bool, ◌&&◌, if◌then◌else◌, ℤ, List, [], ◌∷◌, map, Option, Some, None}
 use Rattle.std.specs.Str.{bytes_eq}
 use Rattle.tars_model.specs.declared.value.Value.{Num}
-use Rattle.session.specs.declared.loaded.CallSpec.{CallSpec}
-use Rattle.session.specs.declared.loaded.Event.{Event}
-use Rattle.session.specs.declared.loaded.Event.TheVariants.{Call, Serve, Work, Deliver, Close}
-use Rattle.session.specs.declared.loaded.Loaded.{Loaded}
-use Rattle.session.specs.declared.loaded.ObjectName.{ObjectName}
-use Rattle.session.specs.declared.loaded.Rule.{Rule}
-use Rattle.session.specs.declared.loaded.Rule.TheVariants.{Add}
-use Rattle.session.specs.declared.script.ScriptText.{ScriptText}
-use Rattle.session.specs.declared.script.object.ObjectText.{ObjectText}
+use Rattle.session_model.specs.declared.loaded.CallSpec.{CallSpec}
+use Rattle.session_model.specs.declared.loaded.Event.{Event}
+use Rattle.session_model.specs.declared.loaded.Event.TheVariants.{Call, Serve, Work, Deliver, Close}
+use Rattle.session_model.specs.declared.loaded.Loaded.{Loaded}
+use Rattle.session_model.specs.declared.loaded.ObjectName.{ObjectName}
+use Rattle.session_model.specs.declared.loaded.Rule.{Rule}
+use Rattle.session_model.specs.declared.loaded.Rule.TheVariants.{Add}
+use Rattle.script_text.specs.declared.script.ScriptText.{ScriptText}
+use Rattle.script_text.specs.declared.script.object.ObjectText.{ObjectText}
 use Rattle.session.specs.InterfaceFile.{InterfaceText}
-use Rattle.session.specs.Reading.{EventValue, event_of, call, serve, work, deliver, close}
+use Rattle.script_text.specs.Reading.{EventValue, event_of, call, serve, work, deliver, close}
 use Rattle.facts.specs.OptionSteps.{◌>>=◌}
 use Rattle.session.specs.Loading.{two_way_call}
-use Rattle.session.specs.Sessions.{NODE, func_of_two, schema_of_one}
+use Rattle.session_model.specs.Sessions.{NODE, func_of_two, schema_of_one}
 
--- the place of a parameter among the arguments, if it is one
-unfoldable pub place_in : InterfaceText → List ℕ → Option ℕ
-place_in i name =
+-- the index of a parameter among the arguments, if it is one
+unfoldable pub index_in : InterfaceText → List ℕ → Option ℕ
+index_in i name =
     if bytes_eq name i.first then Some 0 else (if bytes_eq name i.second then Some 1 else None)
 
--- the rule of adding two parameters, by their places
+-- the rule of adding two parameters, by their indices
 unfoldable pub rule_in : InterfaceText → List ℕ → List ℕ → Option Rule
 rule_in i left right = do
-  a ← place_in i left
-  b ← place_in i right
+  a ← index_in i left
+  b ← index_in i right
   Some (Add a b)
 
 -- a call by the one line of the one function, with two numbers

@@ -1,14 +1,14 @@
 -- How what the plan keeps is tied to what has happened.
 use Rattle.std.specs.Prelude.{◌≡◌, ◌<◌, ◌≤◌, ◌^◌, ◌+◌, ◌++◌, [], ◌∷◌, ℕ, Some, List, length, take, drop, map, fold, true, slice_index_or, slice_set}
 use Rattle.std.specs.List.{AllByRecursion, list_any}
-use Rattle.session.specs.declared.report.End.{End}
-use Rattle.session.specs.declared.loaded.Event.{Event}
-use Rattle.session.specs.declared.link_log.GotFate.{GotFate}
-use Rattle.session.specs.declared.link_log.GotRow.{GotRow}
-use Rattle.session.specs.declared.pending.Pending.{Pending}
+use Rattle.session_model.specs.declared.report.End.{End}
+use Rattle.session_model.specs.declared.loaded.Event.{Event}
+use Rattle.session_model.specs.declared.link_log.GotFate.{GotFate}
+use Rattle.session_model.specs.declared.link_log.GotRow.{GotRow}
+use Rattle.session.specs.declared.call_state.CallState.{CallState}
 use Rattle.session.specs.declared.plan.Plan.{Plan}
 use Rattle.session.specs.declared.service.Service.{Service}
-use Rattle.session.specs.Sessions.{WIDTH}
+use Rattle.session_model.specs.Sessions.{WIDTH}
 use Rattle.session.specs.Courses.{is_open_under, settle, outcome, fate_of, closed_call, Course, Opened, opened, sent_frame, answer_frame, joined, step, after_all}
 use Rattle.session.specs.Planned.{sent_row, got_rows}
 use Rattle.session.specs.Services.{IsService, AreTwoInts, reply_to}
@@ -30,7 +30,7 @@ abbrev pub course_of : Plan → Course
 course_of p = after_all p.service (take p.done p.events.now)
 
 -- The plan keeps what this course says. Bytes are read in whole frames: the node has read so many of
--- the requests, the caller so many of the answers. Behind a close no call is open.
+-- the requests, the caller so many of the answers. After a close no call is open.
 pub record Tracks (p : Plan) (c : Course) : Type 0 where
   pub service : IsService p.service
   pub each : AllByRecursion IsOpened (opened c)
@@ -83,31 +83,31 @@ pub record Ends (old new : Plan) : Type 0 where
   pub tracks : Tracks new (course_of new)
 
 -- The caller takes in the answer to a call: the calls and the rows of what it got, before and after.
-pub record Desk : Type 0 where
-  pub calls : List Pending
+pub record CallerState : Type 0 where
+  pub calls : List CallState
   pub got : List GotRow
 
-abbrev pub come : Service → Desk → Opened → Desk
+abbrev pub come : Service → CallerState → Opened → CallerState
 come s d o =
     record {
       calls = settle o.id (outcome (length d.got + 1) (reply_to s o.args)) d.calls;
       got = d.got ++ record { packet = answer_frame s o; fate = fate_of o.id d.calls } ∷ [];
     }
 
-pub record TakeIn (s : Service) (os : List Opened) (calls : List Pending) (got : List GotRow) (new_calls : List Pending) (new_got : List GotRow) : Type 0 where
+pub record TakeIn (s : Service) (os : List Opened) (calls : List CallState) (got : List GotRow) (new_calls : List CallState) (new_got : List GotRow) : Type 0 where
   pub after : record { calls = new_calls; got = new_got } ≡ fold (come s) (record { calls = calls; got = got }) os
 
 -- a reply settles its call
-pub record Settles (s : Service) (o : Opened) (packet : ℕ) (old new : List Pending) (fate : GotFate) : Type 0 where
+pub record Settles (s : Service) (o : Opened) (packet : ℕ) (old new : List CallState) (fate : GotFate) : Type 0 where
   pub calls_are : new ≡ settle o.id (outcome packet (reply_to s o.args)) old
   pub fate_is : fate ≡ fate_of o.id old
 
-abbrev pub TakesIn : Service → Opened → List Pending → List GotRow → List Pending → List GotRow → Type 0
+abbrev pub TakesIn : Service → Opened → List CallState → List GotRow → List CallState → List GotRow → Type 0
 TakesIn s o calls got new_calls new_got =
     (new_calls ≡ (come s (record { calls = calls; got = got }) o).calls) × (new_got ≡ (come s (record { calls = calls; got = got }) o).got)
 
--- the call at this place is the one that is settled
-pub record IsOpenAt (id : ℕ) (calls : List Pending) (k : ℕ) : Type 0 where
+-- the call at this index is the one that is settled
+pub record IsOpenAt (id : ℕ) (calls : List CallState) (k : ℕ) : Type 0 where
   pub within : k < length calls
   pub found : list_any (is_open_under id) calls ≡ true
-  pub settled : (end : End) (call : Pending) → call ≡ slice_index_or calls k call → settle id end calls ≡ slice_set calls k (record call { end = Some end })
+  pub settled : (end : End) (call : CallState) → call ≡ slice_index_or calls k call → settle id end calls ≡ slice_set calls k (record call { end = Some end })

@@ -3,16 +3,16 @@
 ghost use Rattle.std.specs.Prelude.{◌≡◌, ◌<◌, ◌^◌, length, IfSome};
 ghost use Rattle.session.specs.InterfaceFile.{one_module, one_interface, one_func, is_int_type, is_int_param, returns_int, two_ints, int_params, text_at, func_in, interface_in, IsJudged};
 ghost use Rattle.session.specs.InterfaceVerdicts.{verdict_of};
-ghost use Rattle.session.specs.Reading.{names_of};
-ghost use Rattle.session.specs.Scan.{Gives};
+ghost use Rattle.session.specs.InterfaceFile.{names_of};
+ghost use Rattle.script_text.specs.Scan.{Gives};
 ghost use Rattle.tars_base.specs.Contents.{HoldsOnly};
 
 use crate::interface_fault::{FileFault, InterfaceFault};
-use crate::scan::MAX_FILE;
 use idl_parse::tree::{
     BasicType, DeclTree, Entry, FuncTree, InterfaceTree, ModuleTree, ParamTree, TypeTree,
 };
 use idl_parse::{Span, lex, parse};
+use script_text::MAX_FILE;
 use std::alloc::Global;
 
 /// The names that a script needs of an interface file.
@@ -94,7 +94,7 @@ fn int_params(func: &FuncTree) -> Option<(Span, Span)>
     }
 }
 
-/// The text of a name, by its place.
+/// The text of a name, by its span.
 #[tactic(auto, unfolding(crate::specs::InterfaceFile::text_at))]
 fn text_at(text: &[u8], place: Span) -> &[u8]
     ensures { result.now ≡ text_at text.now place }

@@ -9,8 +9,8 @@ ghost use Rattle.tars_base.specs.Contents.{IsToldOnly};
 
 use crate::interface_fault::InterfaceFault;
 use crate::refused_text::{RefusedText, ScriptFault, TextFault};
-use crate::scan::MAX_FILE;
-use crate::{LoadFault, Loaded, Mode, read_interface, read_script};
+use crate::{LoadFault, Loaded, Mode, read_interface};
+use script_text::{MAX_FILE, read_script};
 use session::session_of;
 use std::alloc::Global;
 use tars_base::Files;

@@ -3,15 +3,15 @@
 
 mod call;
 mod caller;
-mod desk;
 mod node;
+mod replies;
 mod reporting;
 
 ghost use Rattle.std.specs.Prelude.{◌≡◌, ◌<◌, length, OnOk};
 ghost use Rattle.session.specs.Services.{IsService, HasInts, HaveInts};
 ghost use Rattle.session.specs.Tracks.{Tracks, Follows, Advances, Ends, course_of};
 
-use crate::pending::Pending;
+use crate::call_state::CallState;
 use crate::service::Service;
 use crate::{Event, GotRow, SentRow};
 use std::alloc::{AllocError, Global};
@@ -26,7 +26,7 @@ pub(crate) struct Plan<'a> {
     /// How many of the events have happened.
     done: usize,
     /// The calls so far, in order.
-    calls: Vec<Pending>,
+    calls: Vec<CallState>,
     sent: Vec<SentRow>,
     got: Vec<GotRow>,
     closed: bool,

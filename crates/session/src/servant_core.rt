@@ -5,7 +5,7 @@ ghost use Rattle.tars_model.specs.Fits.{IsInt};
 ghost use Rattle.tars_model.specs.declared.value.Value.{Value as AValue};
 ghost use Rattle.tars_codec.specs.Written.{written};
 ghost use Rattle.session.specs.RpcPackets.{response_frame};
-ghost use Rattle.session.specs.Replies.{argument, added};
+ghost use Rattle.session_model.specs.Replies.{argument, added};
 ghost use Rattle.session.specs.Services.{IsService, AreTwoInts, Asks, response_of, response_with};
 
 use crate::bodies::{read_body, write_body};
@@ -18,13 +18,13 @@ use tars_model::{Bytes8, List, Value};
 const UNKNOWN: i32 = -99;
 
 /// A whole-number argument.
-fn number_at(args: &[Value], place: u32) -> i64
+fn number_at(args: &[Value], index: u32) -> i64
     requires ints { AreTwoInts args.now }
-    requires place { place < 2 }
-    ensures value { result ≡ argument args.now place }
+    requires within { index < 2 }
+    ensures value { result ≡ argument args.now index }
     ensures int { IsInt result }
 {
-    match &args[place as usize] {
+    match &args[index as usize] {
         Value::Num(n) => *n,
         _ => unreachable!(),
     }

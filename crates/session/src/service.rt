@@ -1,12 +1,15 @@
 ghost use Rattle.std.specs.Prelude.{◌≡◌, ◌≤◌, length, IfOk};
 ghost use Rattle.session.specs.Loading.{IsLoaded};
 ghost use Rattle.session.specs.Services.{IsService, service_of};
-ghost use Rattle.session.specs.Sessions.{func_of as func_is, node_of as node_is, rule_of as rule_is};
+ghost use Rattle.session_model.specs.Sessions.{func_of as func_is, node_of as node_is, rule_of as rule_is};
 
 use crate::rpc_packet::{request_members, response_members};
 use crate::{Endpoint, Loaded, Rule};
 use std::alloc::{AllocError, Global};
 use tars_model::{FuncDesc, List, Member, Name, args_of, reply_of};
+
+/// The number of the one node.
+pub(crate) const NODE: u32 = 1;
 
 /// What the calls of a script go to: the object, its function, the servant's rule, and the members
 /// that stand in bodies and packets.
@@ -18,7 +21,7 @@ pub(crate) struct Service {
     pub func: Name,
     /// Milliseconds.
     pub timeout: u32,
-    /// The places of the two arguments that the servant adds.
+    /// The indices of the two arguments that the servant adds.
     pub left: u32,
     pub right: u32,
     pub arguments: List<Member>,

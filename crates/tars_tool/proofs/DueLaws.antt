@@ -5,12 +5,12 @@ use Rattle.tars_base.specs.Contents.{Contents, HoldsOnly, IsToldOnly}
 use Rattle.tars_base.specs.declared.status.Status.{Status}
 use Rattle.tars_base.specs.declared.status.Status.TheVariants.{Done, Refused, Usage, ReadFault, WriteFault, Memory}
 use Rattle.session.specs.declared.load_fault.LoadFault.TheVariants as faults
-use Rattle.session.specs.declared.loaded.Loaded.{Loaded}
+use Rattle.session_model.specs.declared.loaded.Loaded.{Loaded}
 use Rattle.session.specs.LoadAnswers.{IsGiven, IsOnlyGiven}
 use Rattle.session.specs.Loading as load
 use Rattle.session.specs.Loading.{LoadAnswer, Loads}
 use Rattle.session.specs.Planned.{planned}
-use Rattle.session.specs.ReportText.{report_text_of}
+use Rattle.report_lines.specs.ReportText.{report_text_of}
 use Rattle.tars_tool.specs.Words.{AskForPlan, AreNoForm}
 use Rattle.tars_tool.specs.Due.{DueAnswer, usage, refused, unread, done, Due, no_form, plan_unread, plan_refused, plan_done}
 use Rattle.tars_tool.specs.Runs.{EndsWith, WritesDue, EndsAsDue, MayEnd}

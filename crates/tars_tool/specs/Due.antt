@@ -1,11 +1,11 @@
 -- What a command should do, where the contents of files are told.
 use Rattle.std.specs.Prelude.{ℕ, List}
 use Rattle.tars_base.specs.Contents.{Contents}
-use Rattle.session.specs.declared.loaded.Loaded.{Loaded}
+use Rattle.session_model.specs.declared.loaded.Loaded.{Loaded}
 use Rattle.session.specs.Loading as load
 use Rattle.session.specs.Loading.{Loads}
 use Rattle.session.specs.Planned.{planned}
-use Rattle.session.specs.ReportText.{report_text_of}
+use Rattle.report_lines.specs.ReportText.{report_text_of}
 use Rattle.tars_tool.specs.Words.{AskForPlan, AreNoForm}
 
 -- nothing but that the words are no command; a refusal line; a file that is needed and not there; all

@@ -2,3 +2,4 @@ pub mod Words
 pub mod Due
 pub mod Runs
 pub mod Sources
+pub mod WordSteps

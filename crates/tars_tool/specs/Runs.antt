@@ -6,10 +6,10 @@ use Rattle.tars_base.specs.declared.status.Status.{Status}
 use Rattle.tars_base.specs.declared.status.Status.TheVariants.{Done, Refused, Usage, ReadFault, WriteFault, Memory}
 use Rattle.session.specs.declared.load_fault.LoadFault.{LoadFault}
 use Rattle.session.specs.declared.load_fault.LoadFault.TheVariants as faults
-use Rattle.session.specs.declared.loaded.Loaded.{Loaded}
+use Rattle.session_model.specs.declared.loaded.Loaded.{Loaded}
 use Rattle.session.specs.Loading.{IsLoaded}
 use Rattle.session.specs.Planned.{planned}
-use Rattle.session.specs.ReportText.{report_text_of}
+use Rattle.report_lines.specs.ReportText.{report_text_of}
 use Rattle.tars_tool.specs.Due.{DueAnswer, usage, refused, done, Due}
 
 -- a text that is due: all that is printed, or the refusal line

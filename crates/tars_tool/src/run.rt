@@ -3,7 +3,7 @@
 ghost use Rattle.std.specs.Prelude.{◌≡◌, ◌≢◌, ◌↔◌, ℕ, List, map, string_bytes, IfOk, IfSome};
 ghost use Rattle.session.specs.Loading.{IsLoaded};
 ghost use Rattle.session.specs.Planned.{planned};
-ghost use Rattle.session.specs.ReportText.{report_text_of};
+ghost use Rattle.report_lines.specs.ReportText.{report_text_of};
 ghost use Rattle.tars_base.specs.Causes.{HasCauseOf, Rose};
 ghost use Rattle.tars_base.specs.Contents.{IsToldOnly};
 ghost use Rattle.tars_tool.specs.Due.{Due};

@@ -1,14 +1,15 @@
 //! The events of a session, whose calls are numbered.
 
 ghost use Rattle.std.specs.Prelude.{◌≡◌, ◌<◌, ◌≤◌, ◌-◌, ◌^◌, map, count_by, IfOk};
-ghost use Rattle.session.specs.Reading.{event_of};
-ghost use Rattle.session.specs.Scan.{Gives};
-ghost use Rattle.session.specs.ScriptSteps.{is_call_value};
-ghost use Rattle.session.specs.TextLimits.{MAX_CALLS};
+ghost use Rattle.script_text.specs.Reading.{event_of};
+ghost use Rattle.script_text.specs.Scan.{Gives};
+ghost use Rattle.script_text.specs.ScriptSteps.{is_call_value};
+ghost use Rattle.script_text.specs.TextLimits.{MAX_CALLS};
 ghost use Rattle.session.specs.SessionSteps.{call_with, event_in, next_number, events_in};
 
-use crate::loaded::NODE;
-use crate::{CallSpec, Event, EventText};
+use crate::service::NODE;
+use crate::{CallSpec, Event};
+use script_text::EventText;
 use std::alloc::{AllocError, Global};
 use tars_model::{List, Value};
 

@@ -3,16 +3,18 @@
 ghost use Rattle.std.specs.Prelude.{◌≡◌, ◌≤◌, [], ◌∷◌, map, count_by, IfOk, MatchOption};
 ghost use Rattle.session.specs.InterfaceFile.{InterfaceText as Named};
 ghost use Rattle.session.specs.Loading.{Agree, loaded_of};
-ghost use Rattle.session.specs.Reading.{names_of, event_of, Reads};
-ghost use Rattle.session.specs.Scan.{Gives};
-ghost use Rattle.session.specs.ScriptSteps.{is_call_value};
-ghost use Rattle.session.specs.ScriptText.{ScriptText as Written};
-ghost use Rattle.session.specs.SessionSteps.{place_in, rule_in, object_in, is_about, session_in};
-ghost use Rattle.session.specs.TextLimits.{MAX_CALLS};
-ghost use Rattle.session.specs.Sessions.{int_param, func_of_two, schema_of_one};
+ghost use Rattle.session.specs.InterfaceFile.{names_of};
+ghost use Rattle.script_text.specs.Reading.{event_of, Reads};
+ghost use Rattle.script_text.specs.Scan.{Gives};
+ghost use Rattle.script_text.specs.ScriptSteps.{is_call_value};
+ghost use Rattle.script_text.specs.ScriptText.{ScriptText as Written};
+ghost use Rattle.session.specs.SessionSteps.{index_in, rule_in, object_in, is_about, session_in};
+ghost use Rattle.script_text.specs.TextLimits.{MAX_CALLS};
+ghost use Rattle.session_model.specs.Sessions.{int_param, func_of_two, schema_of_one};
 
 use crate::loading::events::events_of;
-use crate::{Endpoint, FuncRule, InterfaceText, Loaded, ObjectName, ObjectText, Rule, ScriptText};
+use crate::{Endpoint, FuncRule, InterfaceText, Loaded, ObjectName, Rule};
+use script_text::{ObjectText, ScriptText};
 use std::alloc::{AllocError, Global};
 use tars_model::{FuncDesc, InterfaceDesc, List, Name, Param, Schema, Ty};
 
@@ -78,10 +80,10 @@ fn object_of(alloc: Global, text: &ObjectText) -> Result<ObjectName, AllocError>
     })
 }
 
-/// The place of a parameter among the arguments.
-#[tactic(auto, unfolding(crate::specs::SessionSteps::place_in))]
-fn place_of(interface: &InterfaceText, name: &[u8]) -> Option<u32>
-    ensures { Gives (λ n. n) result (place_in (names_of interface.now) name.now) }
+/// The index of a parameter among the arguments.
+#[tactic(auto, unfolding(crate::specs::SessionSteps::index_in))]
+fn index_of(interface: &InterfaceText, name: &[u8]) -> Option<u32>
+    ensures { Gives (λ n. n) result (index_in (names_of interface.now) name.now) }
 {
     if name == interface.first {
         Some(0)
@@ -96,8 +98,8 @@ fn place_of(interface: &InterfaceText, name: &[u8]) -> Option<u32>
 fn rule_of(interface: &InterfaceText, script: &ScriptText) -> Option<Rule>
     ensures { Gives (λ rule. rule) result (rule_in (names_of interface.now) script.now.left.now script.now.right.now) }
 {
-    let left = place_of(interface, script.left)?;
-    let right = place_of(interface, script.right)?;
+    let left = index_of(interface, script.left)?;
+    let right = index_of(interface, script.right)?;
     Some(Rule::Add(left, right))
 }
 

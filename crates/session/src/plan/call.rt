@@ -4,16 +4,15 @@ ghost use Rattle.std.specs.Prelude.{◌≡◌, ◌<◌, ◌^◌, false, length, 
 ghost use Rattle.session.specs.Courses.{not_sent as is_not_sent, open_under as is_open_under};
 ghost use Rattle.session.specs.RpcPackets.{request_frame};
 ghost use Rattle.session.specs.Services.{IsService, AreTwoInts, request_of};
-ghost use Rattle.session.specs.Sessions.{WIDTH};
+ghost use Rattle.session_model.specs.Sessions.{WIDTH};
 ghost use Rattle.session.specs.Tracks.{Tracks, Follows, course_of};
-ghost use Rattle.session.specs.declared.loaded.Event.TheVariants.{Call};
+ghost use Rattle.session_model.specs.declared.loaded.Event.TheVariants.{Call};
 
 use super::Plan;
 use crate::bodies::write_body;
-use crate::loaded::NODE;
-use crate::pending::Pending;
+use crate::call_state::CallState;
 use crate::rpc_packet::{Request, write_request};
-use crate::service::Service;
+use crate::service::{NODE, Service};
 use crate::{CallId, CallSpec, End, PickNote, Refusal, SentRow, Why};
 use std::alloc::{AllocError, Global};
 use tars_model::{Bytes8, Value};
@@ -28,10 +27,10 @@ const PICKED: PickNote = PickNote {
 };
 
 /// A call that is not sent.
-fn not_sent(spec: &CallSpec, pick: Option<PickNote>, why: Refusal) -> Pending
+fn not_sent(spec: &CallSpec, pick: Option<PickNote>, why: Refusal) -> CallState
     ensures { result ≡ is_not_sent spec.now pick why }
 {
-    Pending {
+    CallState {
         call: spec.call,
         line: spec.line,
         func: spec.func,
@@ -43,10 +42,10 @@ fn not_sent(spec: &CallSpec, pick: Option<PickNote>, why: Refusal) -> Pending
 }
 
 /// A call that is sent under an id.
-fn open_under(spec: &CallSpec, id: u32) -> Pending
+fn open_under(spec: &CallSpec, id: u32) -> CallState
     ensures { result ≡ is_open_under spec.now id }
 {
-    Pending {
+    CallState {
         call: spec.call,
         line: spec.line,
         func: spec.func,

@@ -1,13 +1,13 @@
 //! The caller's side of a plan.
 
 ghost use Rattle.std.specs.Prelude.{None, OnOk};
-ghost use Rattle.session.specs.Sessions.{NODE};
-ghost use Rattle.session.specs.declared.loaded.Event.TheVariants.{Deliver, Close};
+ghost use Rattle.session_model.specs.Sessions.{NODE};
+ghost use Rattle.session_model.specs.declared.loaded.Event.TheVariants.{Deliver, Close};
 ghost use Rattle.session.specs.Tracks.{Tracks, Follows, course_of};
 
 use super::Plan;
-use super::desk::take_all_in;
-use crate::pending::close_all;
+use super::replies::take_all_in;
+use crate::call_state::close_all;
 use crate::tars_frames::whole_packets;
 use std::alloc::{AllocError, Global};
 use std::mem;

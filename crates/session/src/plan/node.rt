@@ -1,8 +1,8 @@
 //! The node's side of a plan.
 
 ghost use Rattle.std.specs.Prelude.{None, OnOk};
-ghost use Rattle.session.specs.Sessions.{NODE};
-ghost use Rattle.session.specs.declared.loaded.Event.TheVariants.{Serve, Work};
+ghost use Rattle.session_model.specs.Sessions.{NODE};
+ghost use Rattle.session_model.specs.declared.loaded.Event.TheVariants.{Serve, Work};
 ghost use Rattle.session.specs.Tracks.{Tracks, Follows, course_of};
 
 use super::Plan;

@@ -3,18 +3,18 @@
 ghost use Rattle.std.specs.Prelude.{◌≡◌, ◌++◌, [], None, map, IfOk};
 ghost use Rattle.std.specs.List.{filter_map};
 ghost use Rattle.session.specs.Planned.{row_of as row_is, picked_step as picked_is, reported_step as reported_is, report_of};
-ghost use Rattle.session.specs.Sessions.{NODE};
+ghost use Rattle.session_model.specs.Sessions.{NODE};
 ghost use Rattle.session.specs.Tracks.{Tracks, course_of};
 
 use super::Plan;
-use crate::loaded::NODE;
-use crate::pending::Pending;
+use crate::call_state::CallState;
+use crate::service::NODE;
 use crate::{End, GotRow, LinkLog, Report, RouteStep, Row, SentRow};
 use std::alloc::{AllocError, Global};
 use tars_model::{Bytes8, List};
 
 /// The row of a call. What is still open ends as closed.
-fn row_of(call: Pending) -> Row
+fn row_of(call: CallState) -> Row
     ensures { result ≡ row_is call }
 {
     Row {
@@ -28,7 +28,7 @@ fn row_of(call: Pending) -> Row
     }
 }
 
-fn rows_of(alloc: Global, calls: Vec<Pending>) -> Result<List<Row>, AllocError>
+fn rows_of(alloc: Global, calls: Vec<CallState>) -> Result<List<Row>, AllocError>
     ensures { IfOk result (λ rows. rows ≡ map row_is calls.items) }
 {
     let rows: Vec<Row> = calls.into_iter().map(row_of).collect(alloc)?;
@@ -36,7 +36,7 @@ fn rows_of(alloc: Global, calls: Vec<Pending>) -> Result<List<Row>, AllocError>
 }
 
 /// The pick of a call, if there was one.
-fn picked_step(call: &Pending) -> Option<RouteStep>
+fn picked_step(call: &CallState) -> Option<RouteStep>
     ensures { result ≡ picked_is call.now }
 {
     let note = call.pick?;
@@ -50,7 +50,7 @@ fn picked_step(call: &Pending) -> Option<RouteStep>
 }
 
 /// What came of a call's pick: each reply is a success of the node.
-fn reported_step(call: &Pending) -> Option<RouteStep>
+fn reported_step(call: &CallState) -> Option<RouteStep>
     ensures { result ≡ reported_is call.now }
 {
     match &call.end {
@@ -65,20 +65,20 @@ fn reported_step(call: &Pending) -> Option<RouteStep>
     }
 }
 
-fn picked_steps(alloc: Global, calls: &[Pending]) -> Result<Vec<RouteStep>, AllocError>
+fn picked_steps(alloc: Global, calls: &[CallState]) -> Result<Vec<RouteStep>, AllocError>
     ensures { IfOk result (λ steps. steps.items ≡ filter_map picked_is calls.now) }
 {
     calls.iter().filter_map(picked_step).collect(alloc)
 }
 
-fn reported_steps(alloc: Global, calls: &[Pending]) -> Result<Vec<RouteStep>, AllocError>
+fn reported_steps(alloc: Global, calls: &[CallState]) -> Result<Vec<RouteStep>, AllocError>
     ensures { IfOk result (λ steps. steps.items ≡ filter_map reported_is calls.now) }
 {
     calls.iter().filter_map(reported_step).collect(alloc)
 }
 
 /// The steps of the router: the picks, then what came of them.
-fn routes_of(alloc: Global, calls: &[Pending]) -> Result<List<RouteStep>, AllocError>
+fn routes_of(alloc: Global, calls: &[CallState]) -> Result<List<RouteStep>, AllocError>
     ensures { IfOk result (λ steps. steps ≡ filter_map picked_is calls.now ++ filter_map reported_is calls.now) }
 {
     let mut steps = picked_steps(alloc, calls)?;

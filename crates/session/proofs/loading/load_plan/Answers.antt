@@ -1,6 +1,6 @@
 use Rattle.std.proofs.Common.{rules}
 use Rattle.tars_base.specs.Contents.{IsFrontOfFile}
-use Rattle.session.specs.ScriptText.{ScriptText, IsScriptText}
+use Rattle.script_text.specs.ScriptText.{ScriptText, IsScriptText}
 use Rattle.session.proofs.LoadingLaws.{MOST, HasRead, calls_read, bad_script_told, bad_value_told, loaded_told, refused_exact, file_refused_exact}
 use Rattle.session.proofs.loading.load_plan.Goals as goal
 

@@ -1,7 +1,7 @@
 use Rattle.std.proofs.Common.{◌≡◌, sym, subst, ◌∙◌}
 use Rattle.std.specs.Prelude.{IfOk, Result, Ok, Err}
-use Rattle.session.specs.declared.loaded.Loaded.{Loaded}
-use Rattle.session.specs.declared.report.Report.{Report}
+use Rattle.session_model.specs.declared.loaded.Loaded.{Loaded}
+use Rattle.session_model.specs.declared.report.Report.{Report}
 use Rattle.session.specs.Legal.{IsLegal}
 use Rattle.session.specs.Loading.{IsLoaded}
 use Rattle.session.specs.Planned.{planned}

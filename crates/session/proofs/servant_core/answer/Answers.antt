@@ -7,7 +7,7 @@ use Rattle.session.specs.declared.rpc_packet.response.Response.{Response}
 use Rattle.session.specs.declared.service.Service.{Service}
 use Rattle.session.specs.RpcPackets.{response_frame}
 use Rattle.session.specs.Services.{request_of, response_of, response_with, AreTwoInts}
-use Rattle.session.specs.Replies.{added, argument}
+use Rattle.session_model.specs.Replies.{added, argument}
 use Rattle.session.proofs.ServiceLemmas.{asked, response_answerable}
 use Rattle.session.proofs.servant_core.answer.Goals as goal
 

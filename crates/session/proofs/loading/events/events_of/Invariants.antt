@@ -1,8 +1,8 @@
 use Rattle.std.proofs.Common.{◌≡◌, ◌≤◌, ◌+◌, ◌++◌, drop, map, count_by}
 use Rattle.std.specs.Option.{option_map}
-use Rattle.session.specs.Reading.{event_of}
-use Rattle.session.specs.ScriptSteps.{is_call_value}
-use Rattle.session.specs.TextLimits.{MAX_CALLS}
+use Rattle.script_text.specs.Reading.{event_of}
+use Rattle.script_text.specs.ScriptSteps.{is_call_value}
+use Rattle.script_text.specs.TextLimits.{MAX_CALLS}
 use Rattle.session.specs.SessionSteps.{events_in}
 use Rattle.session.proofs.loading.events.events_of.Given as goal
 

@@ -1,4 +1,4 @@
-use Rattle.session.specs.Reading.{names_of}
+use Rattle.session.specs.InterfaceFile.{names_of}
 use Rattle.session.proofs.SessionLaws.{session_says}
 use Rattle.session.proofs.loading.session.session_of.Goals as goal
 

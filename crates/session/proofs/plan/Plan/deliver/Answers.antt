@@ -3,12 +3,12 @@ use Rattle.std.proofs.lemmas.List.{length-map, take-map, drop-map}
 use Rattle.std.specs.List.{fold, AllByRecursion}
 use Rattle.wire_words.specs.Packets.{packets_of, IsPacket}
 use Rattle.wire_words.proofs.PacketLaws.{packets_of-joined}
-use Rattle.session.specs.declared.link_log.GotRow.{GotRow}
-use Rattle.session.specs.declared.pending.Pending.{Pending}
+use Rattle.session_model.specs.declared.link_log.GotRow.{GotRow}
+use Rattle.session.specs.declared.call_state.CallState.{CallState}
 use Rattle.session.specs.declared.plan.Plan.{Plan}
 use Rattle.session.specs.Courses.{Course, Opened, opened, answered_calls, answer_frame, answers_stream, joined}
 use Rattle.session.specs.Planned.{got_rows}
-use Rattle.session.specs.Tracks.{Tracks, TakeIn, course_of, IsOpened, Desk, come, answer_frames}
+use Rattle.session.specs.Tracks.{Tracks, TakeIn, course_of, IsOpened, CallerState, come, answer_frames}
 use Rattle.session.proofs.Deliveries.{Comes, comes}
 use Rattle.session.proofs.FramesArePackets.{answers_are_packets}
 use Rattle.session.proofs.Moved.{IsMoved, moved}
@@ -51,11 +51,11 @@ come_moved : (p q : Plan) (c : Course) (t : Tracks p c) (r : Comes p.service c (
 come_moved p q c t r takes same_closed empty =
     let s = p.service in
     let ps = take t.answers (answer_frames s c) in
-    let desk : ◌≡◌ {A = Desk} (record { calls = q.calls.items; got = q.got.items }) (record { calls = r.end.calls; got = got_rows (ps ++ map (answer_frame s) (waiting c)) r.end.fates }) =
+    let caller : ◌≡◌ {A = CallerState} (record { calls = q.calls.items; got = q.got.items }) (record { calls = r.end.calls; got = got_rows (ps ++ map (answer_frame s) (waiting c)) r.end.fates }) =
     takes.after
-    ∙ ap (λ (calls : List Pending). fold (come s) (record { calls = calls; got = p.got.items }) (waiting c)) t.calls_are
+    ∙ ap (λ (calls : List CallState). fold (come s) (record { calls = calls; got = p.got.items }) (waiting c)) t.calls_are
     ∙ ap (λ (rows : List GotRow). fold (come s) (record { calls = c.calls; got = rows }) (waiting c)) t.got_is
-    ∙ r.desk in
+    ∙ r.caller in
     let total = taken_len (answer_frame s) (opened c) c.answered (omega arith) in
     let left : length (waiting c) ≡ c.answered - length c.fates =
     simp length-drop (ap (λ n. n - length c.fates) (sym (length-map (answered_calls c) (answer_frame s)) ∙ ap length (sym (take-map (answer_frame s) c.answered (opened c))) ∙ total)) in
@@ -69,12 +69,12 @@ come_moved p q c t r takes same_closed empty =
       within = omega arith;
       delivered_is = ap (λ fs. length (joined fs)) (sym (take-map (answer_frame s) c.answered (opened c)));
       fates_are = r.fates_len ∙ counted;
-      calls_are = ap (λ (d : Desk). d.calls) desk;
+      calls_are = ap (λ (d : CallerState). d.calls) caller;
       args_are = ap (λ (e : Course). length e.args) r.rest ∙ t.args_are ∙ sym r.calls_len;
       all_ended = λ closed. r.ended (t.all_ended (sym (ap (λ (e : Course). e.closed) r.rest) ∙ closed));
       closed_is = same_closed ∙ t.closed_is ∙ sym (ap (λ (e : Course). e.closed) r.rest);
       to_caller_is = empty ∙ ap joined (sym (drop-take_same c.answered (answer_frames s c)));
-      got_is = ap (λ (d : Desk). d.got) desk ∙ ap (λ fs. got_rows fs r.end.fates) together;
+      got_is = ap (λ (d : CallerState). d.got) caller ∙ ap (λ fs. got_rows fs r.end.fates) together;
     }
 
 got_len : (p : Plan) (c : Course) (t : Tracks p c) → length (take t.answers (answer_frames p.service c)) ≡ length c.fates

@@ -1,5 +1,5 @@
 use Rattle.std.proofs.Common.{◌≡◌, ◌+◌, ◌++◌, ℕ, List, refl, ap, ◌∙◌, arith}
-use Rattle.session.specs.declared.link_log.SentRow.{SentRow}
+use Rattle.session_model.specs.declared.link_log.SentRow.{SentRow}
 use Rattle.session.specs.RpcPackets.{request_frame}
 use Rattle.session.specs.Services.{request_of}
 use Rattle.session.specs.Tracks.{course_of}

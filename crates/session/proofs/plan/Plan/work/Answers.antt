@@ -1,9 +1,9 @@
 use Rattle.std.proofs.Common.{◌≡◌, ◌<◌, ◌+◌, ℕ, suc, List, [], ◌∷◌, ◌++◌, length, take, drop, map, refl, sym, ap, subst, ◌∙◌, arith, add-one}
 use Rattle.std.proofs.lemmas.Bool.{lt-ltb, le-ltb}
-use Rattle.session.specs.declared.loaded.Event.TheVariants.{Work}
+use Rattle.session_model.specs.declared.loaded.Event.TheVariants.{Work}
 use Rattle.session.specs.declared.plan.Plan.{Plan}
 use Rattle.session.specs.Courses.{Course, opened, sent_frame, answer_frame, joined, step}
-use Rattle.session.specs.Sessions.{NODE}
+use Rattle.session_model.specs.Sessions.{NODE}
 use Rattle.session.specs.Tracks.{Tracks, IsOpened, course_of}
 use Rattle.session.proofs.PlanLemmas.{IsNext, next_of, all_answered, one_more_waits}
 use Rattle.session.proofs.TrackLemmas.{offered_len}

@@ -1,0 +1,85 @@
+-- The text of a report (docs/SCRIPTS.md, "Reports").
+use Rattle.std.specs.Prelude.{ℕ, ◌+◌, Bool, false, ◌==◌, not, if◌then◌else◌, Option, Some, None, List, [], ◌∷◌, ◌++◌, length, count_by, codes}
+use Rattle.std.specs.List.{flat_map}
+use Rattle.std.specs.Fmt.{decimal}
+use Rattle.hex.specs.Hex.{encode_upper}
+use Rattle.session_model.specs.declared.link_log.GotFate.{GotFate}
+use Rattle.session_model.specs.declared.link_log.GotFate.TheVariants.{Used, Late}
+use Rattle.session_model.specs.declared.link_log.GotRow.{GotRow}
+use Rattle.session_model.specs.declared.link_log.LinkLog.{LinkLog}
+use Rattle.session_model.specs.declared.link_log.SentRow.{SentRow}
+use Rattle.session_model.specs.declared.loaded.Loaded.{Loaded}
+use Rattle.session_model.specs.declared.report.CallId.{CallId}
+use Rattle.session_model.specs.declared.report.PickNote.{PickNote}
+use Rattle.session_model.specs.declared.report.Report.{Report}
+use Rattle.session_model.specs.declared.report.Row.{Row}
+use Rattle.session_model.specs.ReportWords.{why_text, end_text}
+use Rattle.session_model.specs.Sessions.{func_of}
+
+-- The line of a call: `call K line L FUNC[ node N WHY][ id I] END`.
+
+-- ` node N WHY`, where a node was picked
+unfoldable pub pick_text : Option PickNote → List ℕ
+pick_text None = []
+pick_text (Some pick) = codes " node " ++ decimal pick.node ++ codes " " ++ why_text pick.why
+
+-- ` id I`, where the call was opened
+unfoldable pub id_text : Option CallId → List ℕ
+id_text None = []
+id_text (Some id) = codes " id " ++ decimal id.0
+
+unfoldable pub call_line : Loaded → Row → List ℕ
+call_line l row =
+    codes "call " ++ decimal row.call ++ codes " line " ++ decimal row.line ++ codes " " ++ (func_of l row.func).name
+    ++ pick_text row.pick ++ id_text row.id ++ codes " " ++ end_text row.end ++ codes "\n"
+
+-- The lines of a node: `sent NODE PLACE call K HEX` and `got NODE PLACE FATE HEX`, places from 1.
+
+unfoldable pub sent_line : ℕ → ℕ → SentRow → List ℕ
+sent_line node place row =
+    codes "sent " ++ decimal node ++ codes " " ++ decimal place ++ codes " call " ++ decimal row.call
+    ++ codes " " ++ encode_upper row.frame ++ codes "\n"
+
+abbrev pub is_id : CallId → Option CallId → Bool
+is_id id None = false
+is_id id (Some own) = own.0 == id.0
+
+-- the number of the call whose row has the id, and 0 where none has it
+abbrev pub call_with : List Row → CallId → ℕ
+call_with [] id = 0
+call_with (row ∷ rows) id = if is_id id row.id then row.call else call_with rows id
+
+-- `used K`, with the call that the packet settled, or `late`
+unfoldable pub fate_text : List Row → GotFate → List ℕ
+fate_text rows (Used id) = codes "used " ++ decimal (call_with rows id)
+fate_text rows (Late word) = codes "late"
+
+unfoldable pub got_line : List Row → ℕ → ℕ → GotRow → List ℕ
+got_line rows node place row =
+    codes "got " ++ decimal node ++ codes " " ++ decimal place ++ codes " " ++ fate_text rows row.fate
+    ++ codes " " ++ encode_upper row.packet ++ codes "\n"
+
+-- a line for each row, which is given its place
+abbrev pub numbered_lines : {X : Type 0} → (ℕ → X → List ℕ) → ℕ → List X → List ℕ
+numbered_lines line place [] = []
+numbered_lines line place (row ∷ rows) = line place row ++ numbered_lines line (place + 1) rows
+
+-- what was sent to a node
+abbrev pub sent_lines : LinkLog → List ℕ
+sent_lines link = numbered_lines (sent_line link.node) 1 link.sent
+
+-- what was got from a node
+abbrev pub got_lines : List Row → LinkLog → List ℕ
+got_lines rows link = numbered_lines (got_line rows link.node) 1 link.got
+
+-- `done calls C two-way T one-way O`
+unfoldable pub done_line : List Row → List ℕ
+done_line rows =
+    codes "done calls " ++ decimal (length rows) ++ codes " two-way " ++ decimal (count_by (λ row. row.two_way) rows)
+    ++ codes " one-way " ++ decimal (count_by (λ row. not row.two_way) rows) ++ codes "\n"
+
+-- the lines of the calls, the sent lines of all nodes, the got lines of all nodes, and the last line
+abbrev pub report_text_of : Loaded → Report → List ℕ
+report_text_of l report =
+    flat_map (call_line l) report.calls ++ flat_map sent_lines report.links
+    ++ flat_map (got_lines report.calls) report.links ++ done_line report.calls

@@ -1,0 +1,77 @@
+ghost use Rattle.std.specs.Prelude.{◌≡◌, ◌++◌, not, OnOk, IfOk, count_by};
+ghost use Rattle.std.specs.List.{flat_map};
+ghost use Rattle.session_model.specs.Sessions.{func_of};
+ghost use Rattle.report_lines.specs.ReportText.{pick_text, id_text, call_line, done_line};
+
+use crate::lines::Lines;
+use session_model::{CallId, Loaded, PickNote, Row};
+use std::alloc::AllocError;
+
+/// The name of a function of the caller's interface, and none where it has no such function.
+fn func_name(loaded: &Loaded, func: u32) -> &[u8]
+    ensures { result.now ≡ (func_of loaded.now func).name }
+{
+    let interfaces = loaded.client.interfaces.as_slice();
+    let Some(interface) = interfaces.get(loaded.client_interface as usize) else {
+        return &[];
+    };
+    match interface.funcs.as_slice().get(func as usize) {
+        Some(func) => func.name.as_slice(),
+        None => &[],
+    }
+}
+
+impl Lines {
+    /// Adds the lines of the calls.
+    pub fn put_calls(&mut self, loaded: &Loaded, rows: &[Row]) -> Result<(), AllocError>
+        ensures { OnOk result (self.new ≡ self.old ++ flat_map (call_line loaded.now) rows.now) }
+    {
+        for row in rows {
+            self.put_call(loaded, row)?;
+        }
+        Ok(())
+    }
+
+    #[tactic(auto, unfolding(crate::specs::ReportText::call_line))]
+    fn put_call(&mut self, loaded: &Loaded, row: &Row) -> Result<(), AllocError>
+        ensures { OnOk result (self.new ≡ self.old ++ call_line loaded.now row.now) }
+    {
+        let (call, line, end) = (row.call, row.line, &row.end);
+        self.show(format_args!("call {call} line {line} "))?;
+        self.put(func_name(loaded, row.func))?;
+        self.put_pick(&row.pick)?;
+        self.put_id(&row.id)?;
+        self.show(format_args!(" {end}\n"))
+    }
+
+    #[tactic(auto, unfolding(crate::specs::ReportText::pick_text))]
+    fn put_pick(&mut self, pick: &Option<PickNote>) -> Result<(), AllocError>
+        ensures { OnOk result (self.new ≡ self.old ++ pick_text pick.now) }
+    {
+        match pick {
+            Some(PickNote { node, why }) => self.show(format_args!(" node {node} {why}")),
+            None => Ok(()),
+        }
+    }
+
+    #[tactic(auto, unfolding(crate::specs::ReportText::id_text))]
+    fn put_id(&mut self, id: &Option<CallId>) -> Result<(), AllocError>
+        ensures { OnOk result (self.new ≡ self.old ++ id_text id.now) }
+    {
+        match id {
+            Some(CallId(id)) => self.show(format_args!(" id {id}")),
+            None => Ok(()),
+        }
+    }
+
+    /// Adds the last line.
+    #[tactic(auto, unfolding(crate::specs::ReportText::done_line))]
+    pub fn put_done(&mut self, rows: &[Row]) -> Result<(), AllocError>
+        ensures { OnOk result (self.new ≡ self.old ++ done_line rows.now) }
+    {
+        let calls = rows.len();
+        let two_way = rows.iter().filter(|row| row.two_way).count();
+        let one_way = rows.iter().filter(|row| !row.two_way).count();
+        self.show(format_args!("done calls {calls} two-way {two_way} one-way {one_way}\n"))
+    }
+}

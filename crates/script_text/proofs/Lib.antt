@@ -1,0 +1,10 @@
+pub mod Readers
+pub mod Names
+pub mod Texts
+pub mod Numbers
+pub mod Lines
+pub mod LineReaders
+pub mod EventsLoop
+pub mod HeaderLaws
+pub mod EventLaws
+pub mod ScriptLaws

@@ -1,0 +1,65 @@
+//! The numbers of a script (docs/SCRIPTS.md, "Names and numbers").
+
+ghost use Rattle.std.specs.Prelude.{◌≡◌, ◌≤◌, true, IfSome};
+ghost use Rattle.std.specs.List.{list_all};
+ghost use Rattle.script_text.specs.Numbers.{natural, natural_within};
+ghost use Rattle.script_text.specs.Reading.{int_of};
+ghost use Rattle.script_text.specs.Scan.{Gives};
+ghost use Rattle.script_text.specs.Words.{is_digit, is_natural, is_number};
+
+use crate::scan::utf8;
+
+fn has_only_digits(text: &[u8]) -> bool
+    ensures { result ≡ list_all is_digit text.now }
+{
+    text.iter().all(|byte| byte.is_ascii_digit())
+}
+
+/// Whether the bytes are digits without a leading zero.
+fn is_natural(text: &[u8]) -> bool
+    ensures { result ≡ is_natural text.now }
+{
+    match text {
+        [] => false,
+        [first, rest @ ..] => has_only_digits(text) && (*first > b'0' || rest.is_empty()),
+    }
+}
+
+/// Whether the bytes are digits without a leading zero, or such digits behind a minus but for 0.
+pub fn is_number(text: &[u8]) -> bool
+    ensures { result ≡ is_number text.now }
+{
+    match text {
+        [b'-', digits @ ..] => is_natural(digits) && digits != b"0".as_slice(),
+        _ => is_natural(text),
+    }
+}
+
+#[tactic(auto, unfolding(crate::specs::Numbers::natural))]
+fn natural(text: &[u8]) -> Option<u32>
+    ensures { Gives (λ n. n) result (natural text.now) }
+{
+    if !is_natural(text) {
+        return None;
+    }
+    utf8(text)?.parse().ok()
+}
+
+/// The number that the digits mean, if it is in the range.
+#[tactic(auto, unfolding(crate::specs::Numbers::natural_within))]
+pub fn natural_within(text: &[u8], low: u32, high: u32) -> Option<u32>
+    ensures value { Gives (λ n. n) result (natural_within low high text.now) }
+    ensures within { IfSome result (λ n. n ≤ high) }
+{
+    let number = natural(text)?;
+    (low..=high).contains(&number).then_some(number)
+}
+
+/// The int that a number's text means; none where the number is no int.
+#[tactic(auto, unfolding(crate::specs::Reading::int_of))]
+pub fn int_of(text: &[u8]) -> Option<i32>
+    requires { is_number text.now ≡ true }
+    ensures { result ≡ int_of text.now }
+{
+    utf8(text)?.parse().ok()
+}
