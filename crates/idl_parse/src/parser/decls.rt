@@ -1,4 +1,5 @@
 ghost use Rattle.std.specs.Prelude.{◌≡◌};
+ghost use Rattle.idl_parse.specs.Grammar.{nesting_limit};
 ghost use Rattle.idl_parse.specs.Reading.{Returns, heading_at, struct_at, enum_at, const_at, name_behind_at, names_at, behind_at, place_at, key_at, interface_at, other_decl_at, decl_at, ended_at, decls_at};
 ghost use Rattle.idl_parse.specs.declared.kind.Kind.TheVariants.{Ident as ident};
 ghost use Rattle.idl_parse.specs.declared.sign.Sign.TheVariants.{OpenBracket as open_bracket};
@@ -33,7 +34,7 @@ pub(super) fn heading(word: Keyword, tokens: &[Token]) -> Result<(Span, &[Token]
 /// `struct ident { { member ; } }`
 #[tactic(auto, unfolding(crate::specs::Reading::struct_at))]
 fn struct_decl(alloc: Global, tokens: &[Token]) -> Result<(DeclTree, &[Token]), Halt<'_>>
-    ensures { Returns (λ x. (x.0, x.1.now)) result (struct_at MAX_NESTING tokens.now) }
+    ensures { Returns (λ x. (x.0, x.1.now)) result (struct_at nesting_limit tokens.now) }
 {
     let (name, rest) = heading(Keyword::Struct, tokens)?;
     let (members, rest) = members(alloc, rest)?;
@@ -53,7 +54,7 @@ fn enum_decl(alloc: Global, tokens: &[Token]) -> Result<(DeclTree, &[Token]), Ha
 /// `const type ident = literal`
 #[tactic(auto, unfolding(crate::specs::Reading::const_at))]
 fn const_decl(alloc: Global, tokens: &[Token]) -> Result<(DeclTree, &[Token]), Halt<'_>>
-    ensures { Returns (λ x. (x.0, x.1.now)) result (const_at MAX_NESTING tokens.now) }
+    ensures { Returns (λ x. (x.0, x.1.now)) result (const_at nesting_limit tokens.now) }
 {
     let (_, rest) = one(Kind::Keyword(Keyword::Const), tokens)?;
     let (typed, rest) = typed(alloc, rest)?;
@@ -107,7 +108,7 @@ fn key_decl(alloc: Global, tokens: &[Token]) -> Result<(DeclTree, &[Token]), Hal
 /// `interface ident { { func ; } }`
 #[tactic(auto, unfolding(crate::specs::Reading::interface_at))]
 fn interface_decl(alloc: Global, tokens: &[Token]) -> Result<(DeclTree, &[Token]), Halt<'_>>
-    ensures { Returns (λ x. (x.0, x.1.now)) result (interface_at MAX_NESTING tokens.now) }
+    ensures { Returns (λ x. (x.0, x.1.now)) result (interface_at nesting_limit tokens.now) }
 {
     let (name, rest) = heading(Keyword::Interface, tokens)?;
     let (funcs, rest) = funcs(alloc, rest)?;
@@ -117,7 +118,7 @@ fn interface_decl(alloc: Global, tokens: &[Token]) -> Result<(DeclTree, &[Token]
 /// `const | key | interface`
 #[tactic(auto, unfolding(crate::specs::Reading::other_decl_at))]
 fn other_decl(alloc: Global, tokens: &[Token]) -> Result<(DeclTree, &[Token]), Halt<'_>>
-    ensures { Returns (λ x. (x.0, x.1.now)) result (other_decl_at MAX_NESTING tokens.now) }
+    ensures { Returns (λ x. (x.0, x.1.now)) result (other_decl_at nesting_limit tokens.now) }
 {
     if begins(Kind::Keyword(Keyword::Const), tokens) {
         const_decl(alloc, tokens)
@@ -131,7 +132,7 @@ fn other_decl(alloc: Global, tokens: &[Token]) -> Result<(DeclTree, &[Token]), H
 /// `struct | enum | const | key | interface`
 #[tactic(auto, unfolding(crate::specs::Reading::decl_at))]
 fn decl(alloc: Global, tokens: &[Token]) -> Result<(DeclTree, &[Token]), Halt<'_>>
-    ensures { Returns (λ x. (x.0, x.1.now)) result (decl_at MAX_NESTING tokens.now) }
+    ensures { Returns (λ x. (x.0, x.1.now)) result (decl_at nesting_limit tokens.now) }
 {
     if begins(Kind::Keyword(Keyword::Struct), tokens) {
         struct_decl(alloc, tokens)
@@ -144,7 +145,7 @@ fn decl(alloc: Global, tokens: &[Token]) -> Result<(DeclTree, &[Token]), Halt<'_
 
 /// `decl ;`
 fn ended_decl(alloc: Global, tokens: &[Token]) -> Result<(DeclTree, &[Token]), Halt<'_>>
-    ensures { Returns (λ x. (x.0, x.1.now)) result (ended_at (decl_at MAX_NESTING) tokens.now) }
+    ensures { Returns (λ x. (x.0, x.1.now)) result (ended_at (decl_at nesting_limit) tokens.now) }
 {
     let (decl, rest) = decl(alloc, tokens)?;
     let (_, rest) = one(Kind::Sign(Sign::Semicolon), rest)?;
@@ -153,7 +154,7 @@ fn ended_decl(alloc: Global, tokens: &[Token]) -> Result<(DeclTree, &[Token]), H
 
 /// `{ decl ; } }`
 pub(super) fn decls(alloc: Global, tokens: &[Token]) -> Result<(List<DeclTree>, &[Token]), Halt<'_>>
-    ensures { Returns (λ x. (x.0, x.1.now)) result (decls_at MAX_NESTING tokens.now) }
+    ensures { Returns (λ x. (x.0, x.1.now)) result (decls_at nesting_limit tokens.now) }
 {
     let mut decls = List::new(alloc);
     let mut rest = tokens;

@@ -1,4 +1,5 @@
 ghost use Rattle.std.specs.Prelude.{◌≡◌};
+ghost use Rattle.idl_parse.specs.Grammar.{nesting_limit};
 ghost use Rattle.idl_parse.specs.Reading.{Returns, means_at, array_at, maybe_at, default_at, member_end_at, member_at, ended_at, members_at};
 ghost use Rattle.idl_parse.specs.Words.{requirement_of};
 ghost use Rattle.idl_parse.specs.declared.kind.Kind.TheVariants.{Sign as sign_kind};
@@ -80,7 +81,7 @@ fn member_end(tokens: &[Token]) -> Result<((Option<ArrayLen>, Option<Literal>), 
 
 #[tactic(auto, unfolding(crate::specs::Reading::member_at))]
 fn member(alloc: Global, tokens: &[Token]) -> Result<(MemberTree, &[Token]), Halt<'_>>
-    ensures { Returns (λ x. (x.0, x.1.now)) result (member_at MAX_NESTING tokens.now) }
+    ensures { Returns (λ x. (x.0, x.1.now)) result (member_at nesting_limit tokens.now) }
 {
     let (tag, rest) = place(Kind::Number, tokens)?;
     let ((_, require), rest) = requirement(rest)?;
@@ -100,7 +101,7 @@ fn member(alloc: Global, tokens: &[Token]) -> Result<(MemberTree, &[Token]), Hal
 
 /// `member ;`
 fn ended_member(alloc: Global, tokens: &[Token]) -> Result<(MemberTree, &[Token]), Halt<'_>>
-    ensures { Returns (λ x. (x.0, x.1.now)) result (ended_at (member_at MAX_NESTING) tokens.now) }
+    ensures { Returns (λ x. (x.0, x.1.now)) result (ended_at (member_at nesting_limit) tokens.now) }
 {
     let (member, rest) = member(alloc, tokens)?;
     let (_, rest) = one(Kind::Sign(Sign::Semicolon), rest)?;
@@ -112,7 +113,7 @@ pub(super) fn members(
     alloc: Global,
     tokens: &[Token],
 ) -> Result<(List<MemberTree>, &[Token]), Halt<'_>>
-    ensures { Returns (λ x. (x.0, x.1.now)) result (members_at MAX_NESTING tokens.now) }
+    ensures { Returns (λ x. (x.0, x.1.now)) result (members_at nesting_limit tokens.now) }
 {
     let mut members = List::new(alloc);
     let mut rest = tokens;
