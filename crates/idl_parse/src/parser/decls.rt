@@ -7,6 +7,7 @@ ghost use Rattle.idl_parse.specs.declared.sign.Sign.TheVariants.{OpenBracket as 
 use super::enums::items;
 use super::funcs::funcs;
 use super::halt::Halt;
+use super::items::{Item, until};
 use super::members::members;
 use super::names::default;
 use super::token::{begins, one, place};
@@ -71,19 +72,20 @@ fn name_behind(tokens: &[Token]) -> Result<(Span, &[Token]), Halt<'_>>
     place(Kind::Ident, rest)
 }
 
+impl Item for Span {
+    ghost reading = { name_behind_at };
+
+    fn read(_alloc: Global, tokens: &[Token]) -> Result<(Span, &[Token]), Halt<'_>> {
+        name_behind(tokens)
+    }
+}
+
 /// `{ , ident } ]`
+#[tactic(auto, using(crate::proofs::Turns::name_turn), unfolding(crate::specs::Reading::names_at))]
 fn names(alloc: Global, tokens: &[Token]) -> Result<(List<Span>, &[Token]), Halt<'_>>
     ensures { Returns (λ x. (x.0, x.1.now)) result (names_at tokens.now) }
 {
-    let mut names = List::new(alloc);
-    let mut rest = tokens;
-    while !begins(Kind::Sign(Sign::CloseBracket), rest) {
-        let (name, after) = name_behind(rest)?;
-        names.push(name)?;
-        rest = after;
-    }
-    let (_, rest) = one(Kind::Sign(Sign::CloseBracket), rest)?;
-    Ok((names, rest))
+    until(alloc, Sign::CloseBracket, tokens)
 }
 
 /// `[ ident`
@@ -152,17 +154,18 @@ fn ended_decl(alloc: Global, tokens: &[Token]) -> Result<(DeclTree, &[Token]), H
     Ok((decl, rest))
 }
 
+impl Item for DeclTree {
+    ghost reading = { ended_at (decl_at nesting_limit) };
+
+    fn read(alloc: Global, tokens: &[Token]) -> Result<(DeclTree, &[Token]), Halt<'_>> {
+        ended_decl(alloc, tokens)
+    }
+}
+
 /// `{ decl ; } }`
+#[tactic(auto, using(crate::proofs::Turns::decl_turn), unfolding(crate::specs::Reading::decls_at))]
 pub(super) fn decls(alloc: Global, tokens: &[Token]) -> Result<(List<DeclTree>, &[Token]), Halt<'_>>
     ensures { Returns (λ x. (x.0, x.1.now)) result (decls_at nesting_limit tokens.now) }
 {
-    let mut decls = List::new(alloc);
-    let mut rest = tokens;
-    while !begins(Kind::Sign(Sign::CloseBrace), rest) {
-        let (decl, after) = ended_decl(alloc, rest)?;
-        decls.push(decl)?;
-        rest = after;
-    }
-    let (_, rest) = one(Kind::Sign(Sign::CloseBrace), rest)?;
-    Ok((decls, rest))
+    until(alloc, Sign::CloseBrace, tokens)
 }

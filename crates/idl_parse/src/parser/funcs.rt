@@ -5,6 +5,7 @@ ghost use Rattle.idl_parse.specs.declared.sign.Sign.TheVariants.{OpenParen as op
 ghost use Rattle.idl_parse.specs.declared.kind.Kind.TheVariants.{Keyword as word_kind};
 
 use super::halt::Halt;
+use super::items::{Item, until, until_after};
 use super::token::{begins, one, place};
 use super::types::{MAX_NESTING, type_tree, typed};
 use crate::keyword::Keyword;
@@ -55,34 +56,23 @@ fn param_behind(alloc: Global, tokens: &[Token]) -> Result<(ParamTree, &[Token])
     param(alloc, rest)
 }
 
-/// `{ , param } )`, behind these.
-fn more_params(
-    alloc: Global,
-    params: List<ParamTree>,
-    tokens: &[Token],
-) -> Result<(List<ParamTree>, &[Token]), Halt<'_>>
-    ensures { Returns (λ x. (x.0, x.1.now)) result (with_front params (more_params_at nesting_limit tokens.now)) }
-{
-    let mut params = params;
-    let mut rest = tokens;
-    while !begins(Kind::Sign(Sign::CloseParen), rest) {
-        let (param, after) = param_behind(alloc, rest)?;
-        params.push(param)?;
-        rest = after;
+impl Item for ParamTree {
+    ghost reading = { param_behind_at nesting_limit };
+
+    fn read(alloc: Global, tokens: &[Token]) -> Result<(ParamTree, &[Token]), Halt<'_>> {
+        param_behind(alloc, tokens)
     }
-    let (_, rest) = one(Kind::Sign(Sign::CloseParen), rest)?;
-    Ok((params, rest))
 }
 
 /// `param { , param } )`
-#[tactic(auto, unfolding(crate::specs::Reading::first_params_at))]
+#[tactic(auto, using(crate::proofs::Turns::param_turn), unfolding(crate::specs::Reading::first_params_at, crate::specs::Reading::more_params_at))]
 fn first_params(alloc: Global, tokens: &[Token]) -> Result<(List<ParamTree>, &[Token]), Halt<'_>>
     ensures { Returns (λ x. (x.0, x.1.now)) result (first_params_at nesting_limit tokens.now) }
 {
     let (first, rest) = param(alloc, tokens)?;
     let mut params = List::new(alloc);
     params.push(first)?;
-    more_params(alloc, params, rest)
+    until_after(alloc, Sign::CloseParen, params, rest)
 }
 
 #[tactic(auto, unfolding(crate::specs::Reading::no_params_at))]
@@ -161,17 +151,18 @@ fn ended_func(alloc: Global, tokens: &[Token]) -> Result<(FuncTree, &[Token]), H
     Ok((func, rest))
 }
 
+impl Item for FuncTree {
+    ghost reading = { ended_at (func_at nesting_limit) };
+
+    fn read(alloc: Global, tokens: &[Token]) -> Result<(FuncTree, &[Token]), Halt<'_>> {
+        ended_func(alloc, tokens)
+    }
+}
+
 /// `{ func ; } }`
+#[tactic(auto, using(crate::proofs::Turns::func_turn), unfolding(crate::specs::Reading::funcs_at))]
 pub(super) fn funcs(alloc: Global, tokens: &[Token]) -> Result<(List<FuncTree>, &[Token]), Halt<'_>>
     ensures { Returns (λ x. (x.0, x.1.now)) result (funcs_at nesting_limit tokens.now) }
 {
-    let mut funcs = List::new(alloc);
-    let mut rest = tokens;
-    while !begins(Kind::Sign(Sign::CloseBrace), rest) {
-        let (func, after) = ended_func(alloc, rest)?;
-        funcs.push(func)?;
-        rest = after;
-    }
-    let (_, rest) = one(Kind::Sign(Sign::CloseBrace), rest)?;
-    Ok((funcs, rest))
+    until(alloc, Sign::CloseBrace, tokens)
 }

@@ -6,6 +6,7 @@ ghost use Rattle.idl_parse.specs.declared.kind.Kind.TheVariants.{Sign as sign_ki
 ghost use Rattle.idl_parse.specs.declared.sign.Sign.TheVariants.{OpenBracket as open_bracket, Equals as equals};
 
 use super::halt::Halt;
+use super::items::{Item, until};
 use super::names::{array, default};
 use super::token::{begins, one, place};
 use super::types::{MAX_NESTING, typed};
@@ -108,20 +109,21 @@ fn ended_member(alloc: Global, tokens: &[Token]) -> Result<(MemberTree, &[Token]
     Ok((member, rest))
 }
 
+impl Item for MemberTree {
+    ghost reading = { ended_at (member_at nesting_limit) };
+
+    fn read(alloc: Global, tokens: &[Token]) -> Result<(MemberTree, &[Token]), Halt<'_>> {
+        ended_member(alloc, tokens)
+    }
+}
+
 /// `{ member ; } }`
+#[tactic(auto, using(crate::proofs::Turns::member_turn), unfolding(crate::specs::Reading::members_at))]
 pub(super) fn members(
     alloc: Global,
     tokens: &[Token],
 ) -> Result<(List<MemberTree>, &[Token]), Halt<'_>>
     ensures { Returns (λ x. (x.0, x.1.now)) result (members_at nesting_limit tokens.now) }
 {
-    let mut members = List::new(alloc);
-    let mut rest = tokens;
-    while !begins(Kind::Sign(Sign::CloseBrace), rest) {
-        let (member, after) = ended_member(alloc, rest)?;
-        members.push(member)?;
-        rest = after;
-    }
-    let (_, rest) = one(Kind::Sign(Sign::CloseBrace), rest)?;
-    Ok((members, rest))
+    until(alloc, Sign::CloseBrace, tokens)
 }
