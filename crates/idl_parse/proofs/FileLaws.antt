@@ -9,7 +9,8 @@ use Rattle.idl_parse.specs.declared.kind.Kind.TheVariants as kinds
 use Rattle.idl_parse.specs.declared.token.Token.{Token}
 use Rattle.idl_parse.specs.declared.tree.module.Entry.{Entry}
 use Rattle.idl_parse.proofs.Heads.{bind_ok, then_ok, then_err}
-use Rattle.idl_parse.proofs.Loops.{Shrinks, bind_same}
+use Rattle.idl_parse.specs.Reading.{Shrinks}
+use Rattle.idl_parse.proofs.Loops.{bind_same}
 use Rattle.idl_parse.proofs.Productions.{entry}
 use Rattle.idl_parse.proofs.Readers.{starts}
 use Rattle.idl_parse.proofs.Until.{shrinks_by}

@@ -8,7 +8,7 @@ use Rattle.idl_parse.specs.declared.tree.module.Entry.{Entry}
 use Rattle.idl_parse.proofs.FileLaws.{behind_entry, entry_shrinks, file_nothing, file_turn, file_goes_on}
 use Rattle.idl_parse.proofs.Heads.{then_err}
 use Rattle.idl_parse.proofs.LoopSteps.{fails_first}
-use Rattle.idl_parse.proofs.Loops.{Shrinks}
+use Rattle.idl_parse.specs.Reading.{Shrinks}
 
 abbrev pub with_entries : List Entry → Result (List Entry) Stop → Result (List Entry) Stop
 with_entries front read = read >>= λ others. Ok (front ++ others)

@@ -143,7 +143,7 @@ any_dominates (kind.Keyword k) word rest form =
     subst (λ (t : List ℕ). Dominates (token_at (t ++ rest)) (kind.Keyword k) rest) (sym form) (word_dominates (kind.Keyword k) (keyword_text k) rest (keyword_is_word k) (ap kind_of (keyword_found k)))
 any_dominates kind.Number word rest form = number_dominates kind.Number word rest form
 any_dominates kind.Fraction word rest form = number_dominates kind.Fraction word rest form
-any_dominates kind.Text word rest form = subst (λ (t : List ℕ). token_at (t ++ rest) ≡ None) (sym form.1) refl
+any_dominates kind.Text word rest form = subst (λ (t : List ℕ). token_at (t ++ rest) ≡ None) (sym form.1.1) refl
 any_dominates kind.Include word rest form = subst (λ (t : List ℕ). Dominates (token_at (t ++ rest)) kind.Include rest) (sym form) (include_dominates rest)
 any_dominates (kind.Sign s) word rest form = subst (λ (t : List ℕ). Dominates (token_at (t ++ rest)) (kind.Sign s) rest) (sym form) (sign_dominates s rest)
 

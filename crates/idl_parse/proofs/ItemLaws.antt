@@ -14,7 +14,8 @@ use Rattle.idl_parse.proofs.Heads.{starts_left, bind_ok}
 use Rattle.idl_parse.proofs.InOrder.{then, in_order}
 use Rattle.idl_parse.proofs.Leaves.{giving, single, one}
 use Rattle.idl_parse.proofs.Literals.{name, place}
-use Rattle.idl_parse.proofs.Loops.{Shrinks, bind_same, cond_same, one_turn, until_turn}
+use Rattle.idl_parse.specs.Reading.{Shrinks}
+use Rattle.idl_parse.proofs.Loops.{bind_same, cond_same, one_turn, until_turn}
 use Rattle.idl_parse.proofs.Readers.{Reader, Shape, Fresh, some_more, no_more, Filled, Reads}
 use Rattle.idl_parse.proofs.Rearranged.{ItemsClosed, items_there, items_back, related}
 use Rattle.idl_parse.proofs.Regroup.{same_reader}

@@ -3,18 +3,18 @@ use Rattle.std.proofs.Common.{◌≡◌, ℕ, ◌≤◌, List, [], ◌∷◌, le
 use Rattle.idl_parse.specs.declared.kind.Kind.{Kind}
 use Rattle.idl_parse.specs.declared.lex_fault.LexWhy.{LexWhy}
 use Rattle.idl_parse.specs.declared.lex_fault.LexWhy.TheVariants.{BadByte, OpenComment, OpenText, BadNumber}
-use Rattle.idl_parse.specs.Texts.{AreUnits, IsCut, IsSpoilt}
+use Rattle.idl_parse.specs.Texts.{UnitsSpell, IsCut, IsSpoilt}
 use Rattle.idl_parse.specs.Tokens.{IsLongest, IsFault, HasNoToken, DoesNotBegin}
 use Rattle.idl_parse.specs.Tokens.IsFault.{bad_byte, bad_escape, open_comment, open_text, bad_number}
 use Rattle.idl_parse.proofs.TextLaws.{IsStop, units_same, units_split, cut_stops}
 use Rattle.idl_parse.proofs.PieceLaws.{token_spoilt, token_cut, token_comment}
 
 -- two walks from one quote
-two_walks : (bytes i j a b : List ℕ) → bytes ≡ 34 ∷ i → bytes ≡ 34 ∷ j → AreUnits i a → AreUnits j b → IsStop a → IsStop b → a ≡ b
-two_walks bytes i j a b quote_i quote_j walk_i walk_j stop_a stop_b =
-    let same : j ≡ i = cc in units_same walk_i (subst (λ (t : List ℕ). AreUnits t b) same walk_j) stop_a stop_b
+two_walks : {s t : List ℕ} (bytes i j a b : List ℕ) → bytes ≡ 34 ∷ i → bytes ≡ 34 ∷ j → UnitsSpell s i a → UnitsSpell t j b → IsStop a → IsStop b → a ≡ b
+two_walks {t = t} bytes i j a b quote_i quote_j walk_i walk_j stop_a stop_b =
+    let same : j ≡ i = cc in (units_same walk_i (subst (λ (u : List ℕ). UnitsSpell t u b) same walk_j) stop_a stop_b).0
 
-spoilt_or_cut : (bytes i j a b : List ℕ) → bytes ≡ 34 ∷ i → bytes ≡ 34 ∷ j → AreUnits i a → AreUnits j b → IsSpoilt a → IsCut b → ⊥
+spoilt_or_cut : {s t : List ℕ} (bytes i j a b : List ℕ) → bytes ≡ 34 ∷ i → bytes ≡ 34 ∷ j → UnitsSpell s i a → UnitsSpell t j b → IsSpoilt a → IsCut b → ⊥
 spoilt_or_cut bytes i j a b quote_i quote_j walk_i walk_j spoilt cut =
     spoilt.cut (subst IsCut (sym (two_walks bytes i j a b quote_i quote_j walk_i walk_j spoilt.whole (cut_stops cut))) cut)
 
@@ -30,7 +30,7 @@ byte_only no_token no_comment no_quote (open_comment comment unclosed) = absurd 
 byte_only no_token no_comment no_quote (open_text quote walk cut) = absurd (no_quote _ quote)
 byte_only no_token no_comment no_quote (bad_number {kind = k} {word = w} {rest = s} is unsound) = absurd (no_token k w s is.front is.form)
 
-escape_only : {bytes inside from b : List ℕ} {w : LexWhy} → bytes ≡ 34 ∷ inside → AreUnits inside from → IsSpoilt from → IsFault bytes b w → (from ≡ b) × (BadByte ≡ w)
+escape_only : {spelled bytes inside from b : List ℕ} {w : LexWhy} → bytes ≡ 34 ∷ inside → UnitsSpell spelled inside from → IsSpoilt from → IsFault bytes b w → (from ≡ b) × (BadByte ≡ w)
 escape_only quote walk spoilt (bad_byte some no_gap no_token no_comment no_quote) = absurd (no_quote _ quote)
 escape_only quote walk spoilt (bad_escape quote' walk' spoilt') = (two_walks _ _ _ _ _ quote quote' walk walk' spoilt.whole spoilt'.whole, refl)
 escape_only quote walk spoilt (open_comment comment unclosed) = absurd (quote_no_comment _ _ _ quote comment)
@@ -44,7 +44,7 @@ comment_only comment (open_comment comment' unclosed') = (refl, refl)
 comment_only comment (open_text quote walk cut) = absurd (quote_no_comment _ _ _ quote comment)
 comment_only comment (bad_number is unsound) = absurd (token_comment _ _ _ _ _ is comment)
 
-cut_only : {bytes inside from b : List ℕ} {w : LexWhy} → bytes ≡ 34 ∷ inside → AreUnits inside from → IsCut from → IsFault bytes b w → (bytes ≡ b) × (OpenText ≡ w)
+cut_only : {spelled bytes inside from b : List ℕ} {w : LexWhy} → bytes ≡ 34 ∷ inside → UnitsSpell spelled inside from → IsCut from → IsFault bytes b w → (bytes ≡ b) × (OpenText ≡ w)
 cut_only quote walk cut (bad_byte some no_gap no_token no_comment no_quote) = absurd (no_quote _ quote)
 cut_only quote walk cut (bad_escape quote' walk' spoilt) = absurd (spoilt_or_cut _ _ _ _ _ quote' quote walk' walk spoilt cut)
 cut_only quote walk cut (open_comment comment unclosed) = absurd (quote_no_comment _ _ _ quote comment)
@@ -67,7 +67,7 @@ one_fault (bad_number is unsound) other = number_only is other
 
 -- ---- the place of a fault
 
-units_within : {bytes rest : List ℕ} → AreUnits bytes rest → length rest ≤ length bytes
+units_within : {spelled bytes rest : List ℕ} → UnitsSpell spelled bytes rest → length rest ≤ length bytes
 units_within {rest = rest} walk = let split = units_split walk in omega (arith, ap length split.1, length-append split.0 rest)
 
 pub fault_within : {bytes from : List ℕ} {why : LexWhy} → IsFault bytes from why → length from ≤ length bytes

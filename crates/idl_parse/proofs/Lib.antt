@@ -2,14 +2,16 @@ pub mod Choice
 pub mod Combine
 pub mod DigitLaws
 pub mod Dominating
-pub mod EscapeSteps
+pub mod EscapeLaws
 pub mod FaultLaws
 pub mod FileLaws
 pub mod FileSteps
+pub mod FileWalks
 pub mod FrontLaws
 pub mod GapLaws
 pub mod Heads
 pub mod InOrder
+pub mod IncludeLaws
 pub mod ItemLaws
 pub mod KindLaws
 pub mod Leaves
@@ -19,6 +21,7 @@ pub mod Literals
 pub mod LoopSteps
 pub mod Loops
 pub mod Nesting
+pub mod Nestings
 pub mod NumberLaws
 pub mod NumberLengths
 pub mod OneFault
@@ -36,5 +39,7 @@ pub mod TokenLaws
 pub mod TotalLaws
 pub mod Turns
 pub mod TypeLaws
+pub mod TypeWalks
 pub mod Until
+pub mod Walks
 pub mod WordLaws

@@ -31,7 +31,7 @@ literals_are (kinds.Keyword words.True) x is = refl
 literals_are (kinds.Keyword words.False) x is = refl
 literals_are _ x is = cc
 
-literals_flat : (kind : Kind) (x : forms.the_data) (a : ℕ) → literal_of kind ≡ Some x → behind kind a ≡ a
+pub literals_flat : (kind : Kind) (x : forms.the_data) (a : ℕ) → literal_of kind ≡ Some x → behind kind a ≡ a
 literals_flat kinds.Number x a is = refl
 literals_flat kinds.Fraction x a is = refl
 literals_flat kinds.Text x a is = refl
@@ -58,7 +58,7 @@ basics_are (kinds.Keyword words.Double) x is = refl
 basics_are (kinds.Keyword words.String) x is = refl
 basics_are _ x is = cc
 
-basics_flat : (kind : Kind) (x : basics.the_data) (a : ℕ) → basic_of kind ≡ Some x → behind kind a ≡ a
+pub basics_flat : (kind : Kind) (x : basics.the_data) (a : ℕ) → basic_of kind ≡ Some x → behind kind a ≡ a
 basics_flat (kinds.Keyword word) x a is = refl
 basics_flat _ x a is = cc
 
@@ -75,7 +75,7 @@ unsigned_are (kinds.Keyword words.Short) x is = refl
 unsigned_are (kinds.Keyword words.Int) x is = refl
 unsigned_are _ x is = cc
 
-unsigned_flat : (kind : Kind) (x : basics.the_data) (a : ℕ) → unsigned_of kind ≡ Some x → behind kind a ≡ a
+pub unsigned_flat : (kind : Kind) (x : basics.the_data) (a : ℕ) → unsigned_of kind ≡ Some x → behind kind a ≡ a
 unsigned_flat (kinds.Keyword word) x a is = refl
 unsigned_flat _ x a is = cc
 
@@ -91,7 +91,7 @@ requirements_are (kinds.Keyword words.Require) x is = refl
 requirements_are (kinds.Keyword words.Optional) x is = refl
 requirements_are _ x is = cc
 
-requirements_flat : (kind : Kind) (x : Bool) (a : ℕ) → requirement_of kind ≡ Some x → behind kind a ≡ a
+pub requirements_flat : (kind : Kind) (x : Bool) (a : ℕ) → requirement_of kind ≡ Some x → behind kind a ≡ a
 requirements_flat (kinds.Keyword word) x a is = refl
 requirements_flat _ x a is = cc
 

@@ -8,7 +8,8 @@ use Rattle.idl_parse.specs.declared.parser.halt.Halt.{Halt}
 use Rattle.idl_parse.specs.declared.parser.halt.Halt.TheVariants as halts
 use Rattle.idl_parse.specs.declared.sign.Sign.{Sign}
 use Rattle.idl_parse.specs.declared.token.Token.{Token}
-use Rattle.idl_parse.proofs.Loops.{Shrinks, until_turn}
+use Rattle.idl_parse.specs.Reading.{Shrinks}
+use Rattle.idl_parse.proofs.Loops.{until_turn}
 
 regroup : {A : Type 0} (front : List A) (x : A) (read : Read (List A)) → with_front front (read >>= λ xs. Ok (x ∷ xs.0, xs.1)) ≡ with_front (front ++ x ∷ []) read
 regroup front x (Ok xs) = ap (λ ys. Ok (ys, xs.1)) (sym (append_assoc front (x ∷ []) xs.0))
@@ -17,6 +18,10 @@ regroup front x (Err s) = refl
 pub fails_first : {A B : Type 0} (e : Halt) (first : Result A Stop) (rest : Result B Stop) → Fails e first → ((s : Stop) → first ≡ Err s → rest ≡ Err s) → Fails e rest
 fails_first halts.Memory first rest h on = tt
 fails_first (halts.At left why) first rest h on = on (record { left = left.now; why = why }) h
+
+pub nothing_before : {A : Type 0} (read : Read (List A)) → with_front [] read ≡ read
+nothing_before (Ok xs) = refl
+nothing_before (Err s) = refl
 
 module _ {A : Type 0} (sign : Sign) (f : List Token → Read A) (shrinks : Shrinks f) where
   pub loop_goes_on : (front : List A) (ts : List Token) (x : A) (after : List Token) (total : Read (List A)) → begins (kinds.Sign sign) ts ≡ false → f ts ≡ Ok (x, after) → with_front front (until_at sign f ts) ≡ total → with_front (front ++ x ∷ []) (until_at sign f after) ≡ total

@@ -1,14 +1,10 @@
 -- Readers that repeat: the fuel is enough, since each turn takes a token.
 use Rattle.std.proofs.Common.{◌≡◌, ℕ, zero, suc, ◌<◌, Bool, cond, Result, Ok, Err, List, [], ◌∷◌, length, refl, ap, arith}
 use Rattle.idl_parse.specs.Kinds.{begins}
-use Rattle.idl_parse.specs.Reading.{Stop, Read, ◌>>=◌, mark_at, until_in, until_at}
+use Rattle.idl_parse.specs.Reading.{Stop, Read, Shrinks, ◌>>=◌, mark_at, until_in, until_at}
 use Rattle.idl_parse.specs.declared.kind.Kind.TheVariants as kinds
 use Rattle.idl_parse.specs.declared.sign.Sign.{Sign}
 use Rattle.idl_parse.specs.declared.token.Token.{Token}
-
--- what is read takes a token
-abbrev pub Shrinks : {A : Type 0} → (List Token → Read A) → Type 0
-Shrinks {A} f = (ts : List Token) (x : A) (rest : List Token) → f ts ≡ Ok (x, rest) → length rest < length ts
 
 pub bind_same : {A B : Type 0} (r : Result A Stop) (f g : A → Result B Stop) → ((x : A) → r ≡ Ok x → f x ≡ g x) → (r >>= f) ≡ (r >>= g)
 bind_same (Ok x) f g same = same x refl

@@ -8,7 +8,7 @@ use Rattle.idl_parse.specs.declared.lex_fault.LexWhy.TheVariants.{BadByte, OpenC
 use Rattle.idl_parse.specs.Bytes.{begins, is_quote, is_backslash}
 use Rattle.idl_parse.specs.Forms.{IsForm}
 use Rattle.idl_parse.specs.Gaps.{HasNoClose, IsGap}
-use Rattle.idl_parse.specs.Texts.{AreUnits, IsCut, IsSpoilt, IsTextFront}
+use Rattle.idl_parse.specs.Texts.{UnitsSpell, IsCut, IsSpoilt, IsTextFront}
 use Rattle.idl_parse.specs.Tokens.{IsLongest, IsPiece, IsFault, HasNoGap, DoesNotBegin}
 use Rattle.idl_parse.specs.Tokens.IsPiece.{gap, token}
 use Rattle.idl_parse.specs.Tokens.IsFault.{bad_byte, bad_escape, open_comment, open_text, bad_number}
@@ -62,7 +62,7 @@ unfolding token_at
 form_some k [] form = nothing (either_dominates None k [] (any_dominates k [] [] form))
   where
     nothing : ((k ≡ kind.Text) × (◌≡◌ {A = Option Front} None None)) ⊎ Dominates None k [] → 0 < length {A = ℕ} []
-    nothing (inl text) = let is : IsForm kind.Text [] = subst (λ (j : Kind). IsForm j []) text.0 form in absurd (cc (is.1))
+    nothing (inl text) = let is : IsForm kind.Text [] = subst (λ (j : Kind). IsForm j []) text.0 form in absurd (cc (is.1.1))
     nothing (inr dominates) = absurd dominates
 form_some k (b ∷ word) form = omega arith
 
@@ -88,21 +88,21 @@ one_piece (token {kind = j} {word = v} {bytes = bytes} {rest = r} a sound) (toke
     let same = one_longest bytes j k v w r s a b in (ap Some same.0, same.2)
 
 -- a walk from a quote stops at the quote of a token that stands there
-text_stop : (bytes inside from : List ℕ) (k : Kind) (word rest : List ℕ) → bytes ≡ 34 ∷ inside → bytes ≡ word ++ rest → IsForm k word → AreUnits inside from → IsStop from → from ≡ 34 ∷ rest
+text_stop : {spelled : List ℕ} (bytes inside from : List ℕ) (k : Kind) (word rest : List ℕ) → bytes ≡ 34 ∷ inside → bytes ≡ word ++ rest → IsForm k word → UnitsSpell spelled inside from → IsStop from → from ≡ 34 ∷ rest
 text_stop bytes inside from k word rest quote front form walk stop = by_front (in_front bytes k word rest front form)
   where
     by_front : ((k ≡ kind.Text) × (token_at bytes ≡ None)) ⊎ Dominates (token_at bytes) k rest → from ≡ 34 ∷ rest
     by_front (inl text) =
-        units_same walk (text_walks bytes inside word rest quote front (subst (λ (j : Kind). IsForm j word) text.0 form)) stop (quote_stops rest)
+        (units_same walk (text_walks bytes inside word rest quote front (subst (λ (j : Kind). IsForm j word) text.0 form)) stop (quote_stops rest)).0
     by_front (inr dominates) = absurd (subst (λ (o : Option Front). Dominates o k rest) (ap token_at quote ∙ quote_none inside) dominates)
 
 -- no token stands at a text that is spoilt or cut
-pub token_spoilt : (bytes inside from : List ℕ) (k : Kind) (word rest : List ℕ) → IsLongest k word bytes rest → bytes ≡ 34 ∷ inside → AreUnits inside from → IsSpoilt from → ⊥
+pub token_spoilt : {spelled : List ℕ} (bytes inside from : List ℕ) (k : Kind) (word rest : List ℕ) → IsLongest k word bytes rest → bytes ≡ 34 ∷ inside → UnitsSpell spelled inside from → IsSpoilt from → ⊥
 token_spoilt bytes inside from k word rest is quote walk spoilt =
     let same = text_stop bytes inside from k word rest quote is.front is.form walk spoilt.whole in
     cc (ap (begins is_backslash) same, spoilt.backslash)
 
-pub token_cut : (bytes inside from : List ℕ) (k : Kind) (word rest : List ℕ) → IsLongest k word bytes rest → bytes ≡ 34 ∷ inside → AreUnits inside from → IsCut from → ⊥
+pub token_cut : {spelled : List ℕ} (bytes inside from : List ℕ) (k : Kind) (word rest : List ℕ) → IsLongest k word bytes rest → bytes ≡ 34 ∷ inside → UnitsSpell spelled inside from → IsCut from → ⊥
 token_cut bytes inside from k word rest is quote walk cut =
     let same = text_stop bytes inside from k word rest quote is.front is.form walk (cut_stops cut) in
     quote_no_cut rest (subst IsCut same cut)

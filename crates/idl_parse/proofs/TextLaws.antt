@@ -1,25 +1,26 @@
 -- Texts: the walk from the quote on is the only one.
-use Rattle.std.proofs.Common.{◌≡◌, ℕ, ◌<◌, true, false, eqb, ◌||◌, List, [], ◌∷◌, ◌++◌, length, drop, Result, Ok, Err, refl, sym, ap, ◌∙◌, subst, inl, inr, arith, append_assoc}
+use Rattle.std.proofs.Common.{◌≡◌, ℕ, ◌<◌, true, false, cond, eqb, ◌||◌, List, [], ◌∷◌, ◌++◌, length, take, drop, Result, Ok, Err, refl, sym, ap, ◌∙◌, subst, inl, inr, arith, append_assoc}
 use Rattle.std.proofs.lemmas.Bool.{cases_Bool, eqb-true, or_parts, not-true}
 use Rattle.std.specs.Char.{is_digit}
 use Rattle.idl_parse.specs.declared.texts.Stop.{Stop}
 use Rattle.idl_parse.specs.declared.texts.Stop.TheVariants.{Quote, Cut, Spoilt}
-use Rattle.idl_parse.specs.Bytes.{begins, is_feed, is_quote, is_backslash, is_plain, is_escaped, IsCutOff}
-use Rattle.idl_parse.specs.Texts.{IsUnit, AreUnits, IsCut, IsSpoilt}
-use Rattle.idl_parse.specs.Texts.IsUnit.{plain, short, hex}
-use Rattle.idl_parse.specs.Texts.AreUnits.{none, more}
+use Rattle.std.specs.Str.Parse.{digits_value}
+use Rattle.idl_parse.specs.Bytes.{begins, is_feed, is_quote, is_backslash, is_plain, is_escaped, escaped, IsCutOff}
+use Rattle.idl_parse.specs.Texts.{UnitSpells, UnitsSpell, TextSpells, IsCut, IsSpoilt}
+use Rattle.idl_parse.specs.Texts.UnitSpells.{plain, short, hex}
+use Rattle.idl_parse.specs.Texts.UnitsSpell.{none, more}
 use Rattle.idl_parse.specs.Texts.IsCut.{here, behind_backslash, behind_x, behind_digit}
 use Rattle.idl_parse.specs.Lexing.{spoilt_by, digit_at, and_then, escape_at, unit_at}
 
 -- ---- what stands in front is found
 
-plain_tests : (b : ℕ) → is_plain b ≡ true → (eqb b 34 ≡ false) × (eqb b 92 ≡ false) × (is_feed b ≡ false)
+pub plain_tests : (b : ℕ) → is_plain b ≡ true → (eqb b 34 ≡ false) × (eqb b 92 ≡ false) × (is_feed b ≡ false)
 plain_tests b p =
     let parts = or_parts (eqb b 34 || eqb b 92) (eqb b 10) (not-true _ p) in
     let both = or_parts (eqb b 34) (eqb b 92) parts.0 in
     (both.0, both.1, parts.1)
 
-unit_found : {bytes rest : List ℕ} → IsUnit bytes rest → unit_at bytes ≡ Ok rest
+pub unit_found : {byte : ℕ} {bytes rest : List ℕ} → UnitSpells byte bytes rest → unit_at bytes ≡ Ok rest
 unfolding unit_at escape_at digit_at
 unit_found (plain {b = b} p) = let tests = plain_tests b p in rw (tests.0, tests.1, tests.2) refl
 unit_found (short backslash c) = rw (backslash, c) refl
@@ -55,7 +56,7 @@ cut_found (behind_digit {rest = rest} backslash x h off) = rw (backslash, x, h) 
 
 -- what each outcome says of the bytes
 abbrev Shape : Result (List ℕ) Stop → List ℕ → Type 0
-Shape (Ok rest) bytes = IsUnit bytes rest
+Shape (Ok rest) bytes = (byte : ℕ) × UnitSpells byte bytes rest
 Shape (Err Quote) bytes = bytes ≡ 34 ∷ drop 1 bytes
 Shape (Err Cut) bytes = IsCut bytes
 Shape (Err Spoilt) bytes = begins is_backslash bytes ≡ true
@@ -73,7 +74,7 @@ unfolding digit_at
 last_shape h [] digit = behind_digit refl refl digit (inl refl)
 last_shape h (l ∷ rest) digit =
     elim (cases_Bool (is_digit l 16)) [
-      | inl last ↦ rw last (hex refl refl digit last)
+      | inl last ↦ rw last (_, hex refl refl digit last)
       | inr other ↦ rw other (spoilt_shape l (92 ∷ 120 ∷ h ∷ l ∷ rest) refl (λ feed. behind_digit refl refl digit (inr feed)))
     ]
 
@@ -91,7 +92,7 @@ unfolding escape_at
 escape_shape [] = behind_backslash refl (inl refl)
 escape_shape (c ∷ rest) =
     elim (cases_Bool (is_escaped c)) [
-      | inl escaped ↦ rw escaped (short refl escaped)
+      | inl is ↦ rw is (_, short {c = c} refl is)
       | inr other ↦
           elim (cases_Bool (eqb c 120)) [
             | inl x ↦ rw (other, x) (subst (λ (d : ℕ). Shape (and_then (digit_at rest) digit_at) (92 ∷ d ∷ rest)) (sym (eqb-true c 120 x)) (digits_shape rest))
@@ -111,13 +112,13 @@ unit_shape (b ∷ rest) =
             | inr no_backslash ↦
                 elim (cases_Bool (is_feed b)) [
                   | inl feed ↦ rw (no_quote, no_backslash, feed) (here (inr feed))
-                  | inr no_feed ↦ rw (no_quote, no_backslash, no_feed) (plain {b = b} (rw (no_quote, no_backslash, no_feed) refl))
+                  | inr no_feed ↦ rw (no_quote, no_backslash, no_feed) (b, plain {b = b} (rw (no_quote, no_backslash, no_feed) refl))
                 ]
           ]
     ]
 
 -- the four outcomes
-pub unit_is : (bytes rest : List ℕ) → unit_at bytes ≡ Ok rest → IsUnit bytes rest
+pub unit_is : (bytes rest : List ℕ) → unit_at bytes ≡ Ok rest → (byte : ℕ) × UnitSpells byte bytes rest
 unit_is bytes rest found = subst (λ (o : Result (List ℕ) Stop). Shape o bytes) found (unit_shape bytes)
 
 pub quote_is : (bytes : List ℕ) → unit_at bytes ≡ Err Quote → bytes ≡ 34 ∷ drop 1 bytes
@@ -129,41 +130,66 @@ cut_is bytes found = subst (λ (o : Result (List ℕ) Stop). Shape o bytes) foun
 pub spoilt_is : (bytes : List ℕ) → unit_at bytes ≡ Err Spoilt → IsSpoilt bytes
 spoilt_is bytes found = record {
   backslash = subst (λ (o : Result (List ℕ) Stop). Shape o bytes) found (unit_shape bytes);
-  whole = λ rest unit. cc (found, unit_found unit);
+  whole = λ byte rest unit. cc (found, unit_found unit);
   cut = λ is. cc (found, cut_found is);
 }
 
 -- ---- the walk
 
-pub unit_shorter : {bytes rest : List ℕ} → IsUnit bytes rest → length rest < length bytes
+pub unit_shorter : {byte : ℕ} {bytes rest : List ℕ} → UnitSpells byte bytes rest → length rest < length bytes
 unit_shorter (plain p) = omega arith
 unit_shorter (short b c) = omega arith
 unit_shorter (hex b x h l) = omega arith
 
-pub units_last : {bytes next rest : List ℕ} → AreUnits bytes next → IsUnit next rest → AreUnits bytes rest
+pub units_last : {byte : ℕ} {spelled bytes next rest : List ℕ} → UnitsSpell spelled bytes next → UnitSpells byte next rest → UnitsSpell (spelled ++ byte ∷ []) bytes rest
 units_last none last = more last none
 units_last (more first others) last = more first (units_last others last)
 
 -- neither a byte nor an escape of a text stands there
 abbrev pub IsStop : List ℕ → Type 0
-IsStop bytes = (rest : List ℕ) → IsUnit bytes rest → ⊥
+IsStop bytes = (byte : ℕ) (rest : List ℕ) → UnitSpells byte bytes rest → ⊥
 
--- the walk stops at one place
-pub units_same : {bytes a b : List ℕ} → AreUnits bytes a → AreUnits bytes b → IsStop a → IsStop b → a ≡ b
-units_same none none stop_a stop_b = refl
-units_same none (more first others) stop_a stop_b = absurd (stop_a _ first)
-units_same (more first others) none stop_a stop_b = absurd (stop_b _ first)
-units_same {b = b} (more {next = m} first others) (more {next = n} second rest) stop_a stop_b =
+-- the byte that the unit in front spells
+spelled_after : List ℕ → ℕ
+spelled_after [] = 0
+spelled_after (c ∷ rest) = cond (eqb c 120) (digits_value 16 (take 2 rest)) (escaped c)
+
+spelled_by : List ℕ → ℕ
+spelled_by [] = 0
+spelled_by (b ∷ rest) = cond (eqb b 92) (spelled_after rest) b
+
+-- `\x` is no short escape
+pub no_x : (c : ℕ) → is_escaped c ≡ true → eqb c 120 ≡ false
+no_x c is =
+    elim (cases_Bool (eqb c 120)) [
+      | inl x ↦ absurd (cc (ap is_escaped (eqb-true c 120 x), is))
+      | inr other ↦ other
+    ]
+
+unit_spells : {byte : ℕ} {bytes rest : List ℕ} → UnitSpells byte bytes rest → spelled_by bytes ≡ byte
+unfolding spelled_by spelled_after
+unit_spells (plain {b = b} p) = rw ((plain_tests b p).1) refl
+unit_spells (short {c = c} backslash is) = rw (backslash, no_x c is) refl
+unit_spells (hex backslash x h l) = rw (backslash, x) refl
+
+-- the walk stops at one place, and spells one thing
+pub units_same : {s t bytes a b : List ℕ} → UnitsSpell s bytes a → UnitsSpell t bytes b → IsStop a → IsStop b → (a ≡ b) × (s ≡ t)
+units_same none none stop_a stop_b = (refl, refl)
+units_same none (more first others) stop_a stop_b = absurd (stop_a _ _ first)
+units_same (more first others) none stop_a stop_b = absurd (stop_b _ _ first)
+units_same {b = b} (more {byte = x} {spelled = xs} {next = m} first others) (more {byte = y} {spelled = ys} {next = n} second rest) stop_a stop_b =
     let found : ◌≡◌ {A = Result (List ℕ) Stop} (Ok m) (Ok n) = sym (unit_found first) ∙ unit_found second in
     let same : n ≡ m = cc in
-    units_same others (subst (λ (t : List ℕ). AreUnits t b) same rest) stop_a stop_b
+    let byte = sym (unit_spells first) ∙ unit_spells second in
+    let tail = units_same others (subst (λ (t : List ℕ). UnitsSpell ys t b) same rest) stop_a stop_b in
+    (tail.0, ap (λ (z : ℕ). z ∷ xs) byte ∙ ap (λ (zs : List ℕ). y ∷ zs) tail.1)
 
 pub quote_stops : (rest : List ℕ) → IsStop (34 ∷ rest)
 unfolding unit_at
-quote_stops rest next unit = absurd (cc (unit_found unit))
+quote_stops rest byte next unit = absurd (cc (unit_found unit))
 
 pub cut_stops : {bytes : List ℕ} → IsCut bytes → IsStop bytes
-cut_stops cut next unit = cc (cut_found cut, unit_found unit)
+cut_stops cut byte next unit = cc (cut_found cut, unit_found unit)
 
 -- a quote is neither cut nor spoilt
 pub quote_no_cut : (rest : List ℕ) → IsCut (34 ∷ rest) → ⊥
@@ -171,21 +197,32 @@ unfolding unit_at
 quote_no_cut rest cut = cc (cut_found cut)
 
 -- what a walk went over, whatever follows it
-pub unit_split : {bytes rest : List ℕ} → IsUnit bytes rest → (front : List ℕ) × (bytes ≡ front ++ rest) × ((other : List ℕ) → IsUnit (front ++ other) other)
+pub unit_split : {byte : ℕ} {bytes rest : List ℕ} → UnitSpells byte bytes rest → (front : List ℕ) × (bytes ≡ front ++ rest) × ((other : List ℕ) → UnitSpells byte (front ++ other) other)
 unit_split (plain {b = b} p) = (b ∷ [], refl, λ other. plain p)
 unit_split (short {b = b} {c = c} e f) = (b ∷ c ∷ [], refl, λ other. short e f)
 unit_split (hex {b = b} {x = x} {h = h} {l = l} e f g i) = (b ∷ x ∷ h ∷ l ∷ [], refl, λ other. hex e f g i)
 
-pub units_split : {bytes rest : List ℕ} → AreUnits bytes rest → (front : List ℕ) × (bytes ≡ front ++ rest) × ((other : List ℕ) → AreUnits (front ++ other) other)
+pub units_split : {spelled bytes rest : List ℕ} → UnitsSpell spelled bytes rest → (front : List ℕ) × (bytes ≡ front ++ rest) × ((other : List ℕ) → UnitsSpell spelled (front ++ other) other)
 units_split none = ([], refl, λ other. none)
-units_split {rest = rest} (more first others) =
+units_split {spelled = spelled} {rest = rest} (more first others) =
     let one = unit_split first in
     let all = units_split others in (
       one.0 ++ all.0,
       one.1 ∙ ap (λ (t : List ℕ). one.0 ++ t) all.1 ∙ sym (append_assoc one.0 all.0 rest),
-      λ other. subst (λ (t : List ℕ). AreUnits t other) (sym (append_assoc one.0 all.0 other)) (more (one.2 (all.0 ++ other)) (all.2 other)),
+      λ other. subst (λ (t : List ℕ). UnitsSpell spelled t other) (sym (append_assoc one.0 all.0 other)) (more (one.2 (all.0 ++ other)) (all.2 other)),
     )
 
 pub quote_front : (bytes : List ℕ) → begins is_quote bytes ≡ true → bytes ≡ 34 ∷ drop 1 bytes
 quote_front [] quote = absurd (cc)
 quote_front (b ∷ rest) quote = ap (λ (c : ℕ). c ∷ rest) (eqb-true b 34 quote)
+
+-- ---- a text spells one thing
+
+tails : {a b : ℕ} {x y : List ℕ} → a ∷ x ≡ b ∷ y → x ≡ y
+tails e = cc
+
+pub one_spelling : (a b bytes r s : List ℕ) → TextSpells a bytes r → TextSpells b bytes s → (a ≡ b) × (r ≡ s)
+one_spelling a b bytes r s first second =
+    let same : second.0 ≡ first.0 = tails (sym second.1 ∙ first.1) in
+    let both = units_same first.2 (subst (λ (t : List ℕ). UnitsSpell b t (34 ∷ s)) same second.2) (quote_stops r) (quote_stops s) in
+    (both.1, tails both.0)

@@ -6,7 +6,7 @@ use Rattle.idl_parse.specs.declared.kind.Kind.{Kind}
 use Rattle.idl_parse.specs.declared.kind.Kind.TheVariants as kind
 use Rattle.idl_parse.specs.Bytes.{begins, is_white, is_quote}
 use Rattle.idl_parse.specs.Forms.{IsForm}
-use Rattle.idl_parse.specs.Texts.{AreUnits, IsTextFront}
+use Rattle.idl_parse.specs.Texts.{UnitsSpell, IsTextFront}
 use Rattle.idl_parse.specs.Tokens.{IsLongest, HasNoToken}
 use Rattle.idl_parse.specs.Lexing.{after_gap, Front, sign_of, sign_at, token_at}
 use Rattle.idl_parse.proofs.Dominating.{Dominates, IsFound, Finds}
@@ -52,7 +52,7 @@ none_found bytes none no_quote k word rest front form =
     text_quoted : (k : Kind) (word : List ℕ) → bytes ≡ word ++ rest → IsForm k word → k ≡ kind.Text → ⊥
     text_quoted k word front form text =
         let is : IsForm kind.Text word = subst (λ (j : Kind). IsForm j word) text form in
-        let bytes_are : bytes ≡ 34 ∷ (is.0 ++ rest) = front ∙ ap (λ (t : List ℕ). t ++ rest) is.1 in
+        let bytes_are : bytes ≡ 34 ∷ (is.1.0 ++ rest) = front ∙ ap (λ (t : List ℕ). t ++ rest) is.1.1 in
         cc (no_quote, ap (begins is_quote) bytes_are)
 
 -- a text: none is found at a quote
@@ -61,34 +61,34 @@ unfolding token_at sign_at sign_of
 quote_none inside = refl
 
 -- a text in front is walked from its quote on
-pub text_walks : (bytes inside word more : List ℕ) → bytes ≡ 34 ∷ inside → bytes ≡ word ++ more → IsForm kind.Text word → AreUnits inside (34 ∷ more)
-text_walks bytes inside word more quote front form =
+pub text_walks : (bytes inside word more : List ℕ) → bytes ≡ 34 ∷ inside → bytes ≡ word ++ more → (form : IsForm kind.Text word) → UnitsSpell form.0 inside (34 ∷ more)
+text_walks bytes inside word more quote front (spelled, form) =
     let split = units_split form.2 in
     let whole : 34 ∷ inside ≡ 34 ∷ (split.0 ++ (34 ∷ more)) =
     sym quote ∙ front ∙ ap (λ (t : List ℕ). t ++ more) form.1 ∙ ap (λ (t : List ℕ). 34 ∷ (t ++ more)) split.1 ∙ ap (λ (t : List ℕ). 34 ∷ t) (append_assoc split.0 (34 ∷ []) more) in
     let same : split.0 ++ (34 ∷ more) ≡ inside = cc in
-    subst (λ (t : List ℕ). AreUnits t (34 ∷ more)) same (split.2 (34 ∷ more))
+    subst (λ (t : List ℕ). UnitsSpell spelled t (34 ∷ more)) same (split.2 (34 ∷ more))
 
 -- every text in front ends at the same quote
 text_rest : (bytes rest : List ℕ) → IsTextFront bytes rest → (word more : List ℕ) → bytes ≡ word ++ more → IsForm kind.Text word → more ≡ rest
 text_rest bytes rest is word more front form =
-    let same = units_same (text_walks bytes is.0 word more is.1 front form) is.2 (quote_stops more) (quote_stops rest) in
+    let same = (units_same (text_walks bytes is.1.0 word more is.1.1 front form) is.1.2 (quote_stops more) (quote_stops rest)).0 in
     cc
 
 pub text_longest : (bytes rest : List ℕ) → IsTextFront bytes rest → (word : List ℕ) × IsLongest kind.Text word bytes rest
-text_longest bytes rest is =
+text_longest bytes rest (spelled, is) =
     let split = units_split is.2 in
     let word = 34 ∷ (split.0 ++ (34 ∷ [])) in
     let front : bytes ≡ word ++ rest = is.1 ∙ ap (λ (t : List ℕ). 34 ∷ t) (split.1 ∙ sym (append_assoc split.0 (34 ∷ []) rest)) in (
       word,
       record {
         front = front;
-        form = (split.0 ++ (34 ∷ []), refl, split.2 (34 ∷ []));
+        form = (spelled, (split.0 ++ (34 ∷ []), refl, split.2 (34 ∷ [])));
         longest = λ other longer more other_front form.
             elim (in_front bytes other longer more other_front form) [
               | inl text ↦
                   let is_text : IsForm kind.Text longer = subst (λ (j : Kind). IsForm j longer) text.0 form in
-                  let same = text_rest bytes rest is longer more other_front is_text in
+                  let same = text_rest bytes rest (spelled, is) longer more other_front is_text in
                   longer_word word rest longer more (sym front ∙ other_front) (omega (arith, ap length same))
               | inr dominates ↦
                   absurd (subst (λ (o : Option Front). Dominates o other more) (ap token_at is.1 ∙ quote_none is.0) dominates)

@@ -9,8 +9,8 @@ use Rattle.idl_parse.specs.declared.lex_fault.LexWhy.TheVariants.{BadByte, OpenC
 use Rattle.idl_parse.specs.declared.texts.Stop.{Stop}
 use Rattle.idl_parse.specs.declared.texts.Stop.TheVariants.{Quote, Cut, Spoilt}
 use Rattle.idl_parse.specs.Bytes.{begins, is_quote}
-use Rattle.idl_parse.specs.Texts.{AreUnits}
-use Rattle.idl_parse.specs.Texts.AreUnits.{none, more}
+use Rattle.idl_parse.specs.Texts.{UnitsSpell}
+use Rattle.idl_parse.specs.Texts.UnitsSpell.{none, more}
 use Rattle.idl_parse.specs.Tokens.{IsPiece, ArePieces, Tokens, IsFault, IsLexFault, token_between}
 use Rattle.idl_parse.specs.Tokens.IsPiece.{gap}
 use Rattle.idl_parse.specs.Tokens.IsFault.{bad_escape, open_text}
@@ -23,15 +23,15 @@ use Rattle.idl_parse.proofs.PieceLaws.{found_piece, found_bad, none_bad, text_pi
 -- ---- the walk of a text ends
 
 abbrev Walks : List ℕ → Type 0
-Walks bytes = (rest : List ℕ) × AreUnits bytes rest × (stop : Stop) × (unit_at rest ≡ Err stop)
+Walks bytes = (spelled : List ℕ) × (rest : List ℕ) × UnitsSpell spelled bytes rest × (stop : Stop) × (unit_at rest ≡ Err stop)
 
 walk_ends : (fuel : ℕ) (bytes : List ℕ) → length bytes < fuel → Walks bytes
 walk_ends zero bytes short = absurd (omega arith)
-walk_ends (suc fuel) bytes short = by_unit (unit_at bytes) refl (λ next unit. walk_ends fuel next (omega (arith, unit_shorter (unit_is bytes next unit))))
+walk_ends (suc fuel) bytes short = by_unit (unit_at bytes) refl (λ next unit. walk_ends fuel next (omega (arith, unit_shorter (unit_is bytes next unit).1)))
   where
     by_unit : (o : Result (List ℕ) Stop) → unit_at bytes ≡ o → ((next : List ℕ) → unit_at bytes ≡ Ok next → Walks next) → Walks bytes
-    by_unit (Ok next) is walks = let others = walks next is in (others.0, more (unit_is bytes next is) others.1, others.2, others.3)
-    by_unit (Err stop) is walks = (bytes, none, stop, is)
+    by_unit (Ok next) is walks = let others = walks next is in let first = unit_is bytes next is in (first.0 ∷ others.0, others.1, more first.1 others.2, others.3, others.4)
+    by_unit (Err stop) is walks = ([], bytes, none, stop, is)
 
 -- ---- a piece or a fault stands in front
 
@@ -44,13 +44,13 @@ text_outcome bytes quote = by_stop (walk_ends (suc (length bytes)) (drop 1 bytes
     front : bytes ≡ 34 ∷ drop 1 bytes
     front = quote_front bytes quote
 
-    by_walk : (rest : List ℕ) (stop : Stop) → AreUnits (drop 1 bytes) rest → unit_at rest ≡ Err stop → HasPieceOrFault bytes
-    by_walk rest Quote walk is = inl (Some kind.Text, drop 1 rest, text_piece bytes (drop 1 rest) (drop 1 bytes, front, subst (AreUnits (drop 1 bytes)) (quote_is rest is) walk))
-    by_walk rest Cut walk is = inr (bytes, OpenText, open_text front walk (cut_is rest is))
-    by_walk rest Spoilt walk is = inr (rest, BadByte, bad_escape front walk (spoilt_is rest is))
+    by_walk : (spelled rest : List ℕ) (stop : Stop) → UnitsSpell spelled (drop 1 bytes) rest → unit_at rest ≡ Err stop → HasPieceOrFault bytes
+    by_walk spelled rest Quote walk is = inl (Some kind.Text, drop 1 rest, text_piece bytes (drop 1 rest) (spelled, (drop 1 bytes, front, subst (UnitsSpell spelled (drop 1 bytes)) (quote_is rest is) walk)))
+    by_walk spelled rest Cut walk is = inr (bytes, OpenText, open_text front walk (cut_is rest is))
+    by_walk spelled rest Spoilt walk is = inr (rest, BadByte, bad_escape front walk (spoilt_is rest is))
 
     by_stop : Walks (drop 1 bytes) → HasPieceOrFault bytes
-    by_stop walks = by_walk walks.0 walks.2 walks.1 walks.3
+    by_stop walks = by_walk walks.0 walks.1 walks.3 walks.2 walks.4
 
 token_outcome : (bytes : List ℕ) → bytes ≢ [] → after_gap bytes ≡ None → begins_comment bytes ≡ false → begins is_quote bytes ≡ false → (o : Option Front) → token_at bytes ≡ o → HasPieceOrFault bytes
 token_outcome bytes some no_gap no_comment no_quote None is = inr (bytes, BadByte, none_bad bytes some no_gap no_comment no_quote is)

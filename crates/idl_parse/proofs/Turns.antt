@@ -6,7 +6,7 @@ use Rattle.idl_parse.specs.Rules.{Gives, ◌⟫◌}
 use Rattle.idl_parse.specs.declared.keyword.Keyword.TheVariants as words
 use Rattle.idl_parse.specs.declared.kind.Kind.TheVariants as kinds
 use Rattle.idl_parse.specs.declared.sign.Sign.TheVariants.{Comma, Semicolon}
-use Rattle.idl_parse.proofs.Loops.{Shrinks}
+use Rattle.idl_parse.specs.Reading.{Shrinks}
 use Rattle.idl_parse.proofs.Productions.{ended_member, ended_func, ended_decl, decl_words, name_behind, param_behind}
 use Rattle.idl_parse.proofs.TypeLaws.{type_words}
 use Rattle.idl_parse.proofs.Until.{shrinks_by}

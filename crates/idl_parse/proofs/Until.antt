@@ -12,7 +12,8 @@ use Rattle.idl_parse.proofs.Choice.{one_kind, choice, begins_by_start, take_firs
 use Rattle.idl_parse.proofs.Heads.{apart, starts_left}
 use Rattle.idl_parse.proofs.InOrder.{then, in_order}
 use Rattle.idl_parse.proofs.Leaves.{giving, nothing, gives, single, one}
-use Rattle.idl_parse.proofs.Loops.{Shrinks, one_turn, until_turn}
+use Rattle.idl_parse.specs.Reading.{Shrinks}
+use Rattle.idl_parse.proofs.Loops.{one_turn, until_turn}
 use Rattle.idl_parse.proofs.Readers.{Reader, Shape, seq, Begun, has_some, has_none, Fresh, some_more, no_more, Filled, Reads}
 use Rattle.idl_parse.proofs.Regroup.{same_relation, same_reader}
 

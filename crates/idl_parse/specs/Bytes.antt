@@ -1,5 +1,5 @@
 -- Classes of bytes (docs/IDL.md, "Tokens").
-use Rattle.std.specs.Prelude.{◌≡◌, ◌⊎◌, ℕ, ◌==◌, Bool, true, false, ◌||◌, not, List, [], ◌∷◌}
+use Rattle.std.specs.Prelude.{◌≡◌, ◌⊎◌, ℕ, ◌==◌, Bool, true, false, ◌||◌, not, if◌then◌else◌, List, [], ◌∷◌}
 use Rattle.std.specs.Char.{is_ascii_alphabetic, is_ascii_alphanumeric}
 
 -- space, tab, carriage return, line feed
@@ -30,6 +30,10 @@ is_plain b = not (b == 34 || b == 92 || b == 10)
 -- a byte that makes an escape with the backslash before it: `"`, `\`, `n`, `t`
 abbrev pub is_escaped : ℕ → Bool
 is_escaped b = b == 34 || b == 92 || b == 110 || b == 116
+
+-- the byte that it spells then: `n` the line feed, `t` the tab, the others themselves
+abbrev pub escaped : ℕ → ℕ
+escaped b = if b == 110 then 10 else (if b == 116 then 9 else b)
 
 -- bytes are left, and the first passes
 abbrev pub begins : (ℕ → Bool) → List ℕ → Bool

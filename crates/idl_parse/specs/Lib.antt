@@ -1,7 +1,8 @@
 pub mod Bytes
 pub mod Depth
-pub mod Escapes
+pub mod EscapeSteps
 pub mod Faults
+pub mod Files
 pub mod Forms
 pub mod Gaps
 pub mod Grammar
@@ -11,6 +12,7 @@ pub mod LexWhy
 pub mod Lexing
 pub mod ParseWhy
 pub mod Parsed
+pub mod Places
 pub mod Reading
 pub mod Rules
 pub mod Spans

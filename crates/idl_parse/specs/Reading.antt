@@ -1,6 +1,6 @@
 -- Reading tokens from left to right, as the code does: a tree with the tokens behind it, or where and why
 -- reading stops. proofs/ ties these functions to the grammar.
-use Rattle.std.specs.Prelude.{◌≡◌, ℕ, zero, suc, Bool, true, false, if◌then◌else◌, Option, Some, None, Result, Ok, Err, List, [], ◌∷◌, ◌++◌, length}
+use Rattle.std.specs.Prelude.{◌≡◌, ◌<◌, ℕ, zero, suc, Bool, true, false, if◌then◌else◌, Option, Some, None, Result, Ok, Err, List, [], ◌∷◌, ◌++◌, length}
 use Rattle.idl_parse.specs.Kinds.{same_kind, begins}
 use Rattle.idl_parse.specs.Words.{span, basic_of, unsigned_of, requirement_of, literal_of}
 use Rattle.idl_parse.specs.Grammar.{start_of, is_there}
@@ -39,6 +39,10 @@ pub record Stop : Type 0 where
 
 abbrev pub Read : Type 0 → Type 0
 Read A = Result (A × List Token) Stop
+
+-- what is read takes a token
+abbrev pub Shrinks : {A : Type 0} → (List Token → Read A) → Type 0
+Shrinks {A} f = (ts : List Token) (x : A) (rest : List Token) → f ts ≡ Ok (x, rest) → length rest < length ts
 
 infixl 10 ◌>>=◌
 abbrev pub ◌>>=◌ : {A B : Type 0} → Result A Stop → (A → Result B Stop) → Result B Stop

@@ -1,19 +1,20 @@
--- What stands between the quotes of a text (docs/IDL.md, "Texts").
-use Rattle.std.specs.Prelude.{◌≡◌, ℕ, true, List, ◌∷◌}
+-- What stands between the quotes of a text, and the bytes that it spells (docs/IDL.md, "Texts").
+use Rattle.std.specs.Prelude.{◌≡◌, ℕ, true, List, [], ◌∷◌}
 use Rattle.std.specs.Char.{is_digit}
-use Rattle.idl_parse.specs.Bytes.{is_backslash, is_plain, is_escaped, begins, IsCutOff}
+use Rattle.std.specs.Str.Parse.{digits_value}
+use Rattle.idl_parse.specs.Bytes.{is_backslash, is_plain, is_escaped, escaped, begins, IsCutOff}
 
--- One byte that stands for itself, or one escape: a backslash with `"`, `\`, `n` or `t`, or with `x` and two
--- hexadecimal digits. Then what stands behind it.
-pub data IsUnit : List ℕ → List ℕ → Type 0 where
-  plain : {b : ℕ} {rest : List ℕ} → is_plain b ≡ true → IsUnit (b ∷ rest) rest
-  short : {b c : ℕ} {rest : List ℕ} → b ≡ 92 → is_escaped c ≡ true → IsUnit (b ∷ c ∷ rest) rest
-  hex : {b x h l : ℕ} {rest : List ℕ} → b ≡ 92 → x ≡ 120 → is_digit h 16 ≡ true → is_digit l 16 ≡ true → IsUnit (b ∷ x ∷ h ∷ l ∷ rest) rest
+-- The byte that a unit spells, the bytes that begin with the unit, and the bytes after it. A unit is a byte that
+-- stands for itself, or an escape: a backslash with `"`, `\`, `n` or `t`, or with `x` and two hexadecimal digits.
+pub data UnitSpells : ℕ → List ℕ → List ℕ → Type 0 where
+  plain : {b : ℕ} {rest : List ℕ} → is_plain b ≡ true → UnitSpells b (b ∷ rest) rest
+  short : {b c : ℕ} {rest : List ℕ} → b ≡ 92 → is_escaped c ≡ true → UnitSpells (escaped c) (b ∷ c ∷ rest) rest
+  hex : {b x h l : ℕ} {rest : List ℕ} → b ≡ 92 → x ≡ 120 → is_digit h 16 ≡ true → is_digit l 16 ≡ true → UnitSpells (digits_value 16 (h ∷ l ∷ [])) (b ∷ x ∷ h ∷ l ∷ rest) rest
 
--- any number of these, and what stands behind them
-pub data AreUnits : List ℕ → List ℕ → Type 0 where
-  none : {bytes : List ℕ} → AreUnits bytes bytes
-  more : {bytes next rest : List ℕ} → IsUnit bytes next → AreUnits next rest → AreUnits bytes rest
+-- what any number of units spell
+pub data UnitsSpell : List ℕ → List ℕ → List ℕ → Type 0 where
+  none : {bytes : List ℕ} → UnitsSpell [] bytes bytes
+  more : {byte : ℕ} {spelled bytes next rest : List ℕ} → UnitSpells byte bytes next → UnitsSpell spelled next rest → UnitsSpell (byte ∷ spelled) bytes rest
 
 -- the end or a line feed comes here, or in the escape that begins here
 pub data IsCut : List ℕ → Type 0 where
@@ -25,9 +26,13 @@ pub data IsCut : List ℕ → Type 0 where
 -- a backslash with which neither an escape begins nor one that is cut
 pub record IsSpoilt (bytes : List ℕ) : Type 0 where
   pub backslash : begins is_backslash bytes ≡ true
-  pub whole : (rest : List ℕ) → IsUnit bytes rest → ⊥
+  pub whole : (byte : ℕ) (rest : List ℕ) → UnitSpells byte bytes rest → ⊥
   pub cut : IsCut bytes → ⊥
 
--- a text stands in front of the bytes: a quote, bytes and escapes, a quote, and then the rest
+-- a text in quotes begins the bytes and spells this: a quote, units, a quote, and then the rest
+abbrev pub TextSpells : List ℕ → List ℕ → List ℕ → Type 0
+TextSpells spelled bytes rest = (inside : List ℕ) × (bytes ≡ 34 ∷ inside) × UnitsSpell spelled inside (34 ∷ rest)
+
+-- a text in quotes begins the bytes
 abbrev pub IsTextFront : List ℕ → List ℕ → Type 0
-IsTextFront bytes rest = (inside : List ℕ) × (bytes ≡ 34 ∷ inside) × AreUnits inside (34 ∷ rest)
+IsTextFront bytes rest = (spelled : List ℕ) × TextSpells spelled bytes rest

@@ -6,7 +6,7 @@ use Rattle.idl_parse.specs.declared.lex_fault.LexWhy.{LexWhy}
 use Rattle.idl_parse.specs.declared.lex_fault.LexWhy.TheVariants.{BadByte, OpenComment, OpenText, BadNumber}
 use Rattle.idl_parse.specs.Forms.{IsForm, is_sound}
 use Rattle.idl_parse.specs.Gaps.{IsGap, HasNoClose}
-use Rattle.idl_parse.specs.Texts.{AreUnits, IsCut, IsSpoilt}
+use Rattle.idl_parse.specs.Texts.{UnitsSpell, IsCut, IsSpoilt}
 
 -- a token stands in front of the bytes, as long as a token there can be
 pub record IsLongest (kind : Kind) (word bytes rest : List ℕ) : Type 0 where
@@ -49,9 +49,9 @@ DoesNotBegin front bytes = (rest : List ℕ) → bytes ≢ front ++ rest
 -- what stands in front is no piece for this reason, which is told at the bytes from the second list on
 pub data IsFault : List ℕ → List ℕ → LexWhy → Type 0 where
   bad_byte : {bytes : List ℕ} → bytes ≢ [] → HasNoGap bytes → HasNoToken bytes → DoesNotBegin (codes "/*") bytes → DoesNotBegin (34 ∷ []) bytes → IsFault bytes bytes BadByte
-  bad_escape : {bytes inside from : List ℕ} → bytes ≡ 34 ∷ inside → AreUnits inside from → IsSpoilt from → IsFault bytes from BadByte
+  bad_escape : {bytes inside spelled from : List ℕ} → bytes ≡ 34 ∷ inside → UnitsSpell spelled inside from → IsSpoilt from → IsFault bytes from BadByte
   open_comment : {bytes inside : List ℕ} → bytes ≡ codes "/*" ++ inside → HasNoClose inside → IsFault bytes bytes OpenComment
-  open_text : {bytes inside rest : List ℕ} → bytes ≡ 34 ∷ inside → AreUnits inside rest → IsCut rest → IsFault bytes bytes OpenText
+  open_text : {bytes inside spelled rest : List ℕ} → bytes ≡ 34 ∷ inside → UnitsSpell spelled inside rest → IsCut rest → IsFault bytes bytes OpenText
   bad_number : {kind : Kind} {word bytes rest : List ℕ} → IsLongest kind word bytes rest → is_sound kind word rest ≡ false → IsFault bytes bytes BadNumber
 
 -- pieces go up to the first fault, which is told at this byte

@@ -1,20 +1,22 @@
-ghost use Rattle.std.specs.Prelude.{◌≡◌, ◌<◌, [], ◌++◌, IfOk, OnOk};
-ghost use Rattle.idl_parse.specs.Escapes.{hex_value, named_by, escape_step, given as given_by, unescaped, names_of, between_quotes, include_names};
+//! What texts in quotes spell (docs/IDL.md, "Texts").
 
-use crate::span::Span;
-use crate::tree::Entry;
+ghost use Rattle.std.specs.Prelude.{◌≡◌, ◌<◌, ◌≤◌, ◌-◌, [], ◌++◌, length, slice_range, IfOk, OnOk};
+ghost use Rattle.idl_parse.specs.Bytes.{escaped};
+ghost use Rattle.idl_parse.specs.EscapeSteps.{hex_value, escape_step, given as given_by, unescaped};
+ghost use Rattle.idl_parse.specs.Texts.{IsTextFront, TextSpells};
+
 use std::alloc::{AllocError, Global};
-use tars_model::{Bytes8, List};
+use tars_model::Bytes8;
 
 /// Where a byte of a text stands among the escapes.
-#[derive(Clone, Copy, Debug, PartialEq, Eq)]
-pub(crate) enum Escape {
+#[derive(Clone, Copy)]
+enum Escape {
     Outside,
-    /// Behind a backslash.
+    /// After a backslash.
     Slash,
-    /// Behind `\x`.
+    /// After `\x`.
     Hex,
-    /// Behind `\x` and this digit.
+    /// After `\x` and this digit.
     Digit(u8),
 }
 
@@ -23,20 +25,15 @@ fn hex_value(byte: u8) -> u8
     ensures value { result ≡ hex_value byte }
     ensures small { result < 16 }
 {
-    if b'0' <= byte && byte <= b'9' {
-        byte - b'0'
-    } else if b'A' <= byte && byte <= b'F' {
-        byte - b'A' + 10
-    } else if b'a' <= byte && byte <= b'f' {
-        byte - b'a' + 10
-    } else {
-        0
+    match char::from(byte).to_digit(16) {
+        Some(digit) => digit as u8,
+        None => 0,
     }
 }
 
-/// What a byte behind a backslash stands for.
-fn named_by(byte: u8) -> u8
-    ensures { result ≡ named_by byte }
+/// The byte that a backslash and this byte spell.
+fn escaped(byte: u8) -> u8
+    ensures { result ≡ escaped byte }
 {
     match byte {
         b'n' => b'\n',
@@ -54,7 +51,7 @@ impl Escape {
             Escape::Outside if byte == b'\\' => (Escape::Slash, None),
             Escape::Outside => (Escape::Outside, Some(byte)),
             Escape::Slash if byte == b'x' => (Escape::Hex, None),
-            Escape::Slash => (Escape::Outside, Some(named_by(byte))),
+            Escape::Slash => (Escape::Outside, Some(escaped(byte))),
             Escape::Hex => (Escape::Digit(byte), None),
             Escape::Digit(high) => {
                 let value = 16 * hex_value(high) + hex_value(byte);
@@ -88,42 +85,17 @@ fn unescaped(alloc: Global, bytes: &[u8]) -> Result<Bytes8, AllocError>
     Ok(Bytes8::from_vec(plain))
 }
 
-/// What stands between the quotes of the text at a place.
-fn between_quotes(text: &[u8], place: Span) -> &[u8]
-    ensures { result.now ≡ between_quotes text.now place }
+fn between_quotes(word: &[u8]) -> &[u8]
+    requires { 2 ≤ length word.now }
+    ensures { result.now ≡ slice_range word.now 1 (length word.now - 1) }
 {
-    let start = usize::min(place.start as usize + 1, text.len());
-    let inside = &text[start..];
-    let most = (place.end as usize).saturating_sub(place.start as usize + 2);
-    &inside[..usize::min(most, inside.len())]
+    &word[1..word.len() - 1]
 }
 
-/// Adds the name that an include gives.
-fn add_name(
-    alloc: Global,
-    text: &[u8],
-    entry: &Entry,
-    names: &mut List<Bytes8>,
-) -> Result<(), AllocError>
-    ensures { OnOk result (names.new ≡ names.old ++ names_of text.now entry.now) }
+/// The bytes that a text in quotes spells, escapes replaced (docs/IDL.md, "Texts").
+pub fn spelled(alloc: Global, word: &[u8]) -> Result<Bytes8, AllocError>
+    requires { IsTextFront word.now [] }
+    ensures { IfOk result (λ bytes. TextSpells bytes word.now []) }
 {
-    if let Entry::Include(place) = entry {
-        names.push(unescaped(alloc, between_quotes(text, *place))?)?;
-    }
-    Ok(())
-}
-
-/// The names that the includes give, in the order of the text.
-pub(crate) fn include_names(
-    alloc: Global,
-    text: &[u8],
-    entries: &[Entry],
-) -> Result<List<Bytes8>, AllocError>
-    ensures { IfOk result (λ names. names ≡ include_names text.now entries.now) }
-{
-    let mut names = List::new(alloc);
-    for entry in entries {
-        add_name(alloc, text, entry, &mut names)?;
-    }
-    Ok(names)
+    unescaped(alloc, between_quotes(word))
 }

@@ -1,7 +1,7 @@
 use crate::lex_fault::LexWhy;
 
 /// What is wrong in a text: the reason, and what stands from its place on.
-#[derive(Clone, Copy, Debug)]
+#[derive(Clone, Copy)]
 pub struct Fault<'a> {
     pub from: &'a [u8],
     pub why: LexWhy,

@@ -3,33 +3,26 @@ ghost use Rattle.idl_parse.specs.declared.lex_fault.LexFault.TheVariants.{Memory
 ghost use Rattle.idl_parse.specs.LexWhy.{number_of};
 
 use std::alloc::AllocError;
-use thiserror::Error;
 
 /// Why a text has no tokens (docs/IDL.md, "Tokens").
-#[derive(Clone, Copy, Debug, PartialEq, Eq, Error)]
+#[derive(Clone, Copy, Debug, PartialEq, Eq)]
 pub enum LexFault {
     /// The first fault from the left, and the byte of the text that it stands at.
-    #[error("no token at byte {at}: {why}")]
     Bad { at: u32, why: LexWhy },
-    #[error("no memory")]
     Memory,
 }
 
 /// What is wrong at the place of a fault.
-#[derive(Clone, Copy, Debug, PartialEq, Eq, Error)]
+#[derive(Clone, Copy, Debug, PartialEq, Eq)]
 pub enum LexWhy {
     /// A byte that begins no token, or the backslash of an escape that is none.
-    #[error("bad byte")]
     BadByte,
     /// The `/*` of a comment without an end.
-    #[error("open comment")]
     OpenComment,
     /// The quote of a text that a line feed or the end cuts.
-    #[error("open text")]
     OpenText,
     /// The first byte of a number out of range, or of one that a letter or `_` follows, or of a `0x`
     /// without digits.
-    #[error("bad number")]
     BadNumber,
 }
 

@@ -5,6 +5,7 @@ ghost use Rattle.idl_parse.specs.declared.token.Token.{Token as Found};
 ghost use Rattle.idl_parse.specs.declared.lex_fault.LexWhy.{LexWhy as Why};
 ghost use Rattle.idl_parse.specs.Tokens.{Tokens, IsLexFault};
 ghost use Rattle.idl_parse.specs.Spans.{AreSpans};
+ghost use Rattle.idl_parse.specs.Texts.{TextSpells};
 ghost use Rattle.idl_parse.specs.LexAnswers.{GivesTokens, GivesFault, IsFaultOf};
 
 use crate::fault::Fault;
@@ -60,7 +61,7 @@ pub fn lex(alloc: Global, text: &[u8]) -> Result<List<Token>, LexFault>
 }
 
 /// What holds of every text: it has one list of tokens or one first fault, and not both. The tokens
-/// are slices of the text, one behind the other.
+/// are slices of the text, one after the other, and a text in quotes spells one thing.
 pub fn one_outcome()
     ensures some { (text : Listed ℕ) → ((tokens : Listed Found) × Tokens text tokens)
         ⊎ ((at : ℕ) × (why : Why) × IsLexFault text at why) }
@@ -69,5 +70,6 @@ pub fn one_outcome()
         → (a ≡ b) × (v ≡ w) }
     ensures not_both { (text : Listed ℕ) (tokens : Listed Found) (at : ℕ) (why : Why) → Tokens text tokens
         → ¬ (IsLexFault text at why) }
+    ensures spelling { (a b bytes r s : Listed ℕ) → TextSpells a bytes r → TextSpells b bytes s → (a ≡ b) × (r ≡ s) }
     ensures spans { (text : Listed ℕ) (tokens : Listed Found) → Tokens text tokens → AreSpans text 0 tokens }
 {}

@@ -13,6 +13,7 @@ mod escape;
 mod fault;
 mod front;
 mod gaps;
+mod includes;
 mod keyword;
 mod kind;
 mod lex_fault;
@@ -29,7 +30,8 @@ mod token;
 pub mod tree;
 mod words;
 
-pub use ast::{Ast, parse};
+pub use ast::{Ast, one_tree, parse};
+pub use escape::spelled;
 pub use keyword::Keyword;
 pub use kind::Kind;
 pub use lex_fault::{LexFault, LexWhy};

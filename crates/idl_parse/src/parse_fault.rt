@@ -3,26 +3,21 @@ ghost use Rattle.idl_parse.specs.declared.parse_fault.ParseFault.TheVariants.{Me
 ghost use Rattle.idl_parse.specs.ParseWhy.{number_of};
 
 use std::alloc::AllocError;
-use thiserror::Error;
 
 /// Why tokens are no file (docs/IDL.md, "Faults of the grammar").
-#[derive(Clone, Copy, Debug, PartialEq, Eq, Error)]
+#[derive(Clone, Copy, Debug, PartialEq, Eq)]
 pub enum ParseFault {
     /// The first byte of the token at fault, or the text's length where it ends too early.
-    #[error("no file at byte {at}: {why}")]
     Bad { at: u32, why: ParseWhy },
-    #[error("no memory")]
     Memory,
 }
 
 /// What is wrong at the place of a fault.
-#[derive(Clone, Copy, Debug, PartialEq, Eq, Error)]
+#[derive(Clone, Copy, Debug, PartialEq, Eq)]
 pub enum ParseWhy {
     /// No file goes on with this token, or at the end the file is not complete.
-    #[error("unexpected token")]
     Unexpected,
     /// A type begins inside sixteen others.
-    #[error("nested too deep")]
     TooDeep,
 }
 

@@ -6,6 +6,7 @@ mod enums;
 pub(crate) mod file;
 mod funcs;
 pub(crate) mod halt;
+mod items;
 mod members;
 mod names;
 mod token;

@@ -6,7 +6,7 @@ ghost use Rattle.idl_parse.specs.Bytes.{begins};
 ghost use Rattle.idl_parse.specs.Lexing as spec;
 
 /// A set of bytes.
-#[derive(Clone, Copy, Debug)]
+#[derive(Clone, Copy)]
 pub enum Class {
     /// Letters, digits and `_`.
     Word,

@@ -12,7 +12,7 @@ use crate::lex_fault::LexWhy;
 use crate::runs::{Class, is_in};
 
 /// Why no byte or escape of a text stands in front.
-#[derive(Clone, Copy, Debug)]
+#[derive(Clone, Copy)]
 enum Stop {
     /// The quote that ends the text.
     Quote,

@@ -1,7 +1,7 @@
 use crate::kind::Kind;
 
 /// A token of a text: the text's bytes from `start` up to `end`.
-#[derive(Clone, Copy, Debug, PartialEq, Eq)]
+#[derive(Clone, Copy, PartialEq, Eq)]
 pub struct Token {
     pub kind: Kind,
     pub start: u32,

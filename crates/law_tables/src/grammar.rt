@@ -5,14 +5,14 @@ mod refused;
 mod refused_calls;
 mod shape;
 
-use idl_parse::{Ast, LexFault, ParseFault, lex, parse};
+use idl_parse::{Ast, LexFault, ParseFault, lex, one_tree, parse};
 use shape::shape_of;
 use std::alloc::{AllocError, Global};
 use std::str;
 use std::test::Fail;
 
 /// The most bytes of a text that the tests read.
-const MOST: usize = 4096;
+const MOST: usize = 1 << 20;
 
 /// The file that a text is, or the number and the place of its fault. A text that is too long for the
 /// tests has the number 0.
@@ -44,7 +44,7 @@ fn fault_of(alloc: Global, text: &str) -> Result<Option<(u8, u32)>, AllocError> 
 /// The shape of a text's tree, or its fault.
 fn tree_of(alloc: Global, text: &str) -> Result<String, AllocError> {
     match read(alloc, text)? {
-        Ok(ast) => shape_of(alloc, text.as_bytes(), ast.entries.as_slice()),
+        Ok(ast) => shape_of(alloc, text.as_bytes(), ast.entries()),
         Err((number, at)) => format!(in alloc; "fault {number} {at}"),
     }
 }
@@ -206,10 +206,37 @@ fn includes_stand_in_the_order_of_the_text(rt: HostRuntime) -> Result<(), Fail> 
             "#include \"b\" module M { }; #include \"a\" module N { }; #include \"b\"",
             "b a b ",
         ),
+        (
+            "#include \"\\\"\\\\\\n\\t\\x41\\x7e\\x7E\"",
+            "\"\\\n\tA~~ - - ",
+        ),
     ];
     for (text, wanted) in cases {
         let includes = includes_of(rt.alloc(), text)?;
         assert_eq!(rt; includes.as_str(), wanted, "at {text}");
     }
+    Ok(())
+}
+
+/// A file of 80,000 tokens in includes, and a module behind them.
+fn long_file(alloc: Global) -> Result<String, AllocError> {
+    let mut text = String::new(alloc);
+    for _ in 0..40_000 {
+        text.push_str("#include \"\\x41\\n\"\n")?;
+    }
+    text.push_str("module M { const map<map<int, A>, map<A, vector<int>>> a = 1; };")?;
+    Ok(text)
+}
+
+#[test]
+fn a_long_file_is_read(rt: HostRuntime) -> Result<(), Fail> {
+    let text = long_file(rt.alloc())?;
+    let ast = read(rt.alloc(), &text)?.ok().ok_or("a file")?;
+    assert_eq!(rt; ast.name(), b"a.tars".as_slice());
+    assert_eq!(rt; ast.text(), text.as_bytes());
+    assert_eq!(rt; ast.entries().len(), 40_001);
+    assert_eq!(rt; ast.include(39_999), Some(b"A\n".as_slice()));
+    assert_eq!(rt; ast.include(40_000), None);
+    one_tree();
     Ok(())
 }

@@ -212,18 +212,15 @@ fn a_text_of_a_mebibyte_has_its_tokens(rt: HostRuntime) -> Result<(), Fail> {
 }
 
 #[test]
-fn a_reason_has_its_number_and_words(rt: HostRuntime) -> Result<(), Fail> {
+fn a_reason_has_its_number(rt: HostRuntime) {
     let cases = [
-        (LexWhy::BadByte, 1, "no token at byte 7: bad byte"),
-        (LexWhy::OpenComment, 2, "no token at byte 7: open comment"),
-        (LexWhy::OpenText, 3, "no token at byte 7: open text"),
-        (LexWhy::BadNumber, 4, "no token at byte 7: bad number"),
+        (LexWhy::BadByte, 1),
+        (LexWhy::OpenComment, 2),
+        (LexWhy::OpenText, 3),
+        (LexWhy::BadNumber, 4),
     ];
-    for (why, number, words) in cases {
+    for (why, number) in cases {
         assert_eq!(rt; why.number(), number);
-        let printed = format!(in rt.alloc(); "{}", LexFault::Bad { at: 7, why })?;
-        assert_eq!(rt; printed.as_str(), words);
     }
     one_outcome();
-    Ok(())
 }

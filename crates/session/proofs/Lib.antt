@@ -14,6 +14,7 @@ pub mod LegalSteps
 pub mod LegalRows
 pub mod LegalReplies
 pub mod InterfaceLaws
+pub mod InterfaceNames
 pub mod LegalLaw
 pub mod SessionLaws
 pub mod LoadingLaws

@@ -1,5 +1,5 @@
 -- What an interface file is to a script (docs/IDL.md, "What is accepted").
-use Rattle.std.specs.Prelude.{◌≡◌, ◌<◌, ◌≤◌, ℕ, Bool, true, false, ◌&&◌, not, is_none, nat_le, if◌then◌else◌, Option, Some, None, List, [], ◌∷◌, length, slice_range}
+use Rattle.std.specs.Prelude.{◌≡◌, ◌<◌, ◌≤◌, ℕ, Bool, true, false, ◌&&◌, not, is_none, if◌then◌else◌, Option, Some, None, List, [], ◌∷◌, length, slice_range}
 use Rattle.std.specs.Str.{bytes_eq}
 use Rattle.facts.specs.OptionSteps.{◌>>=◌}
 use Rattle.idl_parse.specs.declared.token.Token.{Token}
@@ -75,8 +75,8 @@ unfoldable pub int_params : FuncTree → Option (Span × Span)
 int_params f = if returns_int f.ret then two_ints f.params else None
 
 -- the text of a name, by its span
-unfoldable pub text_at : List ℕ → Span → List ℕ
-text_at text span = if nat_le span.start span.end && nat_le span.end (length text) then slice_range text span.start span.end else []
+abbrev pub text_at : List ℕ → Span → List ℕ
+text_at text span = slice_range text span.start span.end
 
 -- the function's name and those of its parameters, which differ
 unfoldable pub func_in : List ℕ → FuncTree → Option (List ℕ × List ℕ × List ℕ)

@@ -1,6 +1,8 @@
 //! Interface files, as far as a script can use them (docs/IDL.md, "What is accepted").
 
 ghost use Rattle.std.specs.Prelude.{◌≡◌, ◌<◌, ◌^◌, length, IfSome};
+ghost use Rattle.std.specs.List.{All};
+ghost use Rattle.idl_parse.specs.Places.{NameIn, FuncIn, EntryIn};
 ghost use Rattle.session.specs.InterfaceFile.{one_module, one_interface, one_func, is_int_type, is_int_param, returns_int, two_ints, int_params, text_at, func_in, interface_in, IsJudged};
 ghost use Rattle.session.specs.InterfaceVerdicts.{verdict_of};
 ghost use Rattle.session.specs.InterfaceFile.{names_of};
@@ -94,17 +96,12 @@ fn int_params(func: &FuncTree) -> Option<(Span, Span)>
     }
 }
 
-/// The text of a name, by its span.
-#[tactic(auto, unfolding(crate::specs::InterfaceFile::text_at))]
-fn text_at(text: &[u8], place: Span) -> &[u8]
+/// The bytes of a name.
+fn name_text(text: &[u8], place: Span) -> &[u8]
+    requires { NameIn text.now place }
     ensures { result.now ≡ text_at text.now place }
 {
-    let (start, end) = (place.start as usize, place.end as usize);
-    if start <= end && end <= text.len() {
-        &text[start..end]
-    } else {
-        &[]
-    }
+    place.slice(text)
 }
 
 /// The names of a function and of its parameters.
@@ -118,15 +115,16 @@ struct FuncText<'a> {
 /// The names of a function of two ints with names that differ.
 #[tactic(auto, unfolding(crate::specs::InterfaceFile::func_in))]
 fn func_text<'a>(text: &'a [u8], func: &FuncTree) -> Option<FuncText<'a>>
+    requires { FuncIn text.now func.now }
     ensures { Gives (λ f. (f.func.now, f.first.now, f.second.now)) result (func_in text.now func.now) }
 {
     let (first, second) = int_params(func)?;
-    let (first, second) = (text_at(text, first), text_at(text, second));
+    let (first, second) = (name_text(text, first), name_text(text, second));
     if first == second {
         return None;
     }
     Some(FuncText {
-        func: text_at(text, func.name),
+        func: name_text(text, func.name),
         first,
         second,
     })
@@ -135,14 +133,15 @@ fn func_text<'a>(text: &'a [u8], func: &FuncTree) -> Option<FuncText<'a>>
 /// The names of a file with one module with one interface with one function of two ints.
 #[tactic(auto, unfolding(crate::specs::InterfaceFile::interface_in))]
 fn interface_text<'a>(text: &'a [u8], entries: &[Entry]) -> Option<InterfaceText<'a>>
+    requires { All (EntryIn text.now) entries.now }
     ensures { Gives names_of result (interface_in text.now entries.now) }
 {
     let module = one_module(entries)?;
     let interface = one_interface(module.decls.as_slice())?;
     let func = func_text(text, one_func(interface.funcs.as_slice())?)?;
     Some(InterfaceText {
-        module: text_at(text, module.name),
-        interface: text_at(text, interface.name),
+        module: name_text(text, module.name),
+        interface: name_text(text, interface.name),
         func: func.func,
         first: func.first,
         second: func.second,
@@ -162,7 +161,7 @@ pub fn read_interface<'a>(
     }
     let tokens = lex(alloc, text)?;
     let ast = parse(alloc, name, text, tokens.as_slice())?;
-    match interface_text(text, ast.entries.as_slice()) {
+    match interface_text(text, ast.entries()) {
         Some(names) => Ok(names),
         None => Err(InterfaceFault::Refused(FileFault::Shape)),
     }

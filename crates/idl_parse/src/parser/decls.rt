@@ -1,4 +1,5 @@
 ghost use Rattle.std.specs.Prelude.{◌≡◌};
+ghost use Rattle.idl_parse.specs.Grammar.{nesting_limit};
 ghost use Rattle.idl_parse.specs.Reading.{Returns, heading_at, struct_at, enum_at, const_at, name_behind_at, names_at, behind_at, place_at, key_at, interface_at, other_decl_at, decl_at, ended_at, decls_at};
 ghost use Rattle.idl_parse.specs.declared.kind.Kind.TheVariants.{Ident as ident};
 ghost use Rattle.idl_parse.specs.declared.sign.Sign.TheVariants.{OpenBracket as open_bracket};
@@ -6,6 +7,7 @@ ghost use Rattle.idl_parse.specs.declared.sign.Sign.TheVariants.{OpenBracket as 
 use super::enums::items;
 use super::funcs::funcs;
 use super::halt::Halt;
+use super::items::{Item, until};
 use super::members::members;
 use super::names::default;
 use super::token::{begins, one, place};
@@ -33,7 +35,7 @@ pub(super) fn heading(word: Keyword, tokens: &[Token]) -> Result<(Span, &[Token]
 /// `struct ident { { member ; } }`
 #[tactic(auto, unfolding(crate::specs::Reading::struct_at))]
 fn struct_decl(alloc: Global, tokens: &[Token]) -> Result<(DeclTree, &[Token]), Halt<'_>>
-    ensures { Returns (λ x. (x.0, x.1.now)) result (struct_at MAX_NESTING tokens.now) }
+    ensures { Returns (λ x. (x.0, x.1.now)) result (struct_at nesting_limit tokens.now) }
 {
     let (name, rest) = heading(Keyword::Struct, tokens)?;
     let (members, rest) = members(alloc, rest)?;
@@ -53,7 +55,7 @@ fn enum_decl(alloc: Global, tokens: &[Token]) -> Result<(DeclTree, &[Token]), Ha
 /// `const type ident = literal`
 #[tactic(auto, unfolding(crate::specs::Reading::const_at))]
 fn const_decl(alloc: Global, tokens: &[Token]) -> Result<(DeclTree, &[Token]), Halt<'_>>
-    ensures { Returns (λ x. (x.0, x.1.now)) result (const_at MAX_NESTING tokens.now) }
+    ensures { Returns (λ x. (x.0, x.1.now)) result (const_at nesting_limit tokens.now) }
 {
     let (_, rest) = one(Kind::Keyword(Keyword::Const), tokens)?;
     let (typed, rest) = typed(alloc, rest)?;
@@ -70,19 +72,20 @@ fn name_behind(tokens: &[Token]) -> Result<(Span, &[Token]), Halt<'_>>
     place(Kind::Ident, rest)
 }
 
+impl Item for Span {
+    ghost reading = { name_behind_at };
+
+    fn read(_alloc: Global, tokens: &[Token]) -> Result<(Span, &[Token]), Halt<'_>> {
+        name_behind(tokens)
+    }
+}
+
 /// `{ , ident } ]`
+#[tactic(auto, using(crate::proofs::Turns::name_turn), unfolding(crate::specs::Reading::names_at))]
 fn names(alloc: Global, tokens: &[Token]) -> Result<(List<Span>, &[Token]), Halt<'_>>
     ensures { Returns (λ x. (x.0, x.1.now)) result (names_at tokens.now) }
 {
-    let mut names = List::new(alloc);
-    let mut rest = tokens;
-    while !begins(Kind::Sign(Sign::CloseBracket), rest) {
-        let (name, after) = name_behind(rest)?;
-        names.push(name)?;
-        rest = after;
-    }
-    let (_, rest) = one(Kind::Sign(Sign::CloseBracket), rest)?;
-    Ok((names, rest))
+    until(alloc, Sign::CloseBracket, tokens)
 }
 
 /// `[ ident`
@@ -107,7 +110,7 @@ fn key_decl(alloc: Global, tokens: &[Token]) -> Result<(DeclTree, &[Token]), Hal
 /// `interface ident { { func ; } }`
 #[tactic(auto, unfolding(crate::specs::Reading::interface_at))]
 fn interface_decl(alloc: Global, tokens: &[Token]) -> Result<(DeclTree, &[Token]), Halt<'_>>
-    ensures { Returns (λ x. (x.0, x.1.now)) result (interface_at MAX_NESTING tokens.now) }
+    ensures { Returns (λ x. (x.0, x.1.now)) result (interface_at nesting_limit tokens.now) }
 {
     let (name, rest) = heading(Keyword::Interface, tokens)?;
     let (funcs, rest) = funcs(alloc, rest)?;
@@ -117,7 +120,7 @@ fn interface_decl(alloc: Global, tokens: &[Token]) -> Result<(DeclTree, &[Token]
 /// `const | key | interface`
 #[tactic(auto, unfolding(crate::specs::Reading::other_decl_at))]
 fn other_decl(alloc: Global, tokens: &[Token]) -> Result<(DeclTree, &[Token]), Halt<'_>>
-    ensures { Returns (λ x. (x.0, x.1.now)) result (other_decl_at MAX_NESTING tokens.now) }
+    ensures { Returns (λ x. (x.0, x.1.now)) result (other_decl_at nesting_limit tokens.now) }
 {
     if begins(Kind::Keyword(Keyword::Const), tokens) {
         const_decl(alloc, tokens)
@@ -131,7 +134,7 @@ fn other_decl(alloc: Global, tokens: &[Token]) -> Result<(DeclTree, &[Token]), H
 /// `struct | enum | const | key | interface`
 #[tactic(auto, unfolding(crate::specs::Reading::decl_at))]
 fn decl(alloc: Global, tokens: &[Token]) -> Result<(DeclTree, &[Token]), Halt<'_>>
-    ensures { Returns (λ x. (x.0, x.1.now)) result (decl_at MAX_NESTING tokens.now) }
+    ensures { Returns (λ x. (x.0, x.1.now)) result (decl_at nesting_limit tokens.now) }
 {
     if begins(Kind::Keyword(Keyword::Struct), tokens) {
         struct_decl(alloc, tokens)
@@ -144,24 +147,25 @@ fn decl(alloc: Global, tokens: &[Token]) -> Result<(DeclTree, &[Token]), Halt<'_
 
 /// `decl ;`
 fn ended_decl(alloc: Global, tokens: &[Token]) -> Result<(DeclTree, &[Token]), Halt<'_>>
-    ensures { Returns (λ x. (x.0, x.1.now)) result (ended_at (decl_at MAX_NESTING) tokens.now) }
+    ensures { Returns (λ x. (x.0, x.1.now)) result (ended_at (decl_at nesting_limit) tokens.now) }
 {
     let (decl, rest) = decl(alloc, tokens)?;
     let (_, rest) = one(Kind::Sign(Sign::Semicolon), rest)?;
     Ok((decl, rest))
 }
 
-/// `{ decl ; } }`
-pub(super) fn decls(alloc: Global, tokens: &[Token]) -> Result<(List<DeclTree>, &[Token]), Halt<'_>>
-    ensures { Returns (λ x. (x.0, x.1.now)) result (decls_at MAX_NESTING tokens.now) }
-{
-    let mut decls = List::new(alloc);
-    let mut rest = tokens;
-    while !begins(Kind::Sign(Sign::CloseBrace), rest) {
-        let (decl, after) = ended_decl(alloc, rest)?;
-        decls.push(decl)?;
-        rest = after;
+impl Item for DeclTree {
+    ghost reading = { ended_at (decl_at nesting_limit) };
+
+    fn read(alloc: Global, tokens: &[Token]) -> Result<(DeclTree, &[Token]), Halt<'_>> {
+        ended_decl(alloc, tokens)
     }
-    let (_, rest) = one(Kind::Sign(Sign::CloseBrace), rest)?;
-    Ok((decls, rest))
+}
+
+/// `{ decl ; } }`
+#[tactic(auto, using(crate::proofs::Turns::decl_turn), unfolding(crate::specs::Reading::decls_at))]
+pub(super) fn decls(alloc: Global, tokens: &[Token]) -> Result<(List<DeclTree>, &[Token]), Halt<'_>>
+    ensures { Returns (λ x. (x.0, x.1.now)) result (decls_at nesting_limit tokens.now) }
+{
+    until(alloc, Sign::CloseBrace, tokens)
 }

@@ -4,6 +4,7 @@ ghost use Rattle.idl_parse.specs.declared.kind.Kind.TheVariants.{Sign as sign_ki
 ghost use Rattle.idl_parse.specs.declared.sign.Sign.TheVariants.{Equals as equals};
 
 use super::halt::Halt;
+use super::items::{Item, until};
 use super::token::{begins, one, place};
 use crate::kind::Kind;
 use crate::sign::Sign;
@@ -56,17 +57,18 @@ fn item_comma(tokens: &[Token]) -> Result<(EnumItem, &[Token]), Halt<'_>>
     Ok((item, rest))
 }
 
+impl Item for EnumItem {
+    ghost reading = { item_comma_at };
+
+    fn read(_alloc: Global, tokens: &[Token]) -> Result<(EnumItem, &[Token]), Halt<'_>> {
+        item_comma(tokens)
+    }
+}
+
 /// `[ item { , item } [ , ] ] }`
+#[tactic(auto, using(crate::proofs::ItemLaws::item_comma_shrinks), unfolding(crate::specs::Reading::items_at))]
 pub(super) fn items(alloc: Global, tokens: &[Token]) -> Result<(List<EnumItem>, &[Token]), Halt<'_>>
     ensures { Returns (λ x. (x.0, x.1.now)) result (items_at tokens.now) }
 {
-    let mut items = List::new(alloc);
-    let mut rest = tokens;
-    while !begins(Kind::Sign(Sign::CloseBrace), rest) {
-        let (item, after) = item_comma(rest)?;
-        items.push(item)?;
-        rest = after;
-    }
-    let (_, rest) = one(Kind::Sign(Sign::CloseBrace), rest)?;
-    Ok((items, rest))
+    until(alloc, Sign::CloseBrace, tokens)
 }

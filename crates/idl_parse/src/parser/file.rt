@@ -1,4 +1,5 @@
 ghost use Rattle.std.specs.Prelude.{◌≡◌};
+ghost use Rattle.idl_parse.specs.Grammar.{nesting_limit};
 ghost use Rattle.idl_parse.specs.Reading.{Returns, module_at, include_at, entry_at, file_at};
 
 use super::decls::{decls, heading};
@@ -16,7 +17,7 @@ use tars_model::List;
 /// `module ident { { decl ; } } ;`
 #[tactic(auto, unfolding(crate::specs::Reading::module_at))]
 fn module_entry(alloc: Global, tokens: &[Token]) -> Result<(Entry, &[Token]), Halt<'_>>
-    ensures { Returns (λ x. (x.0, x.1.now)) result (module_at MAX_NESTING tokens.now) }
+    ensures { Returns (λ x. (x.0, x.1.now)) result (module_at nesting_limit tokens.now) }
 {
     let (name, rest) = heading(Keyword::Module, tokens)?;
     let (decls, rest) = decls(alloc, rest)?;
@@ -37,7 +38,7 @@ fn include_entry(tokens: &[Token]) -> Result<(Entry, &[Token]), Halt<'_>>
 /// `#include text | module`
 #[tactic(auto, unfolding(crate::specs::Reading::entry_at))]
 fn entry(alloc: Global, tokens: &[Token]) -> Result<(Entry, &[Token]), Halt<'_>>
-    ensures { Returns (λ x. (x.0, x.1.now)) result (entry_at MAX_NESTING tokens.now) }
+    ensures { Returns (λ x. (x.0, x.1.now)) result (entry_at nesting_limit tokens.now) }
 {
     if begins(Kind::Include, tokens) {
         include_entry(tokens)
@@ -48,7 +49,7 @@ fn entry(alloc: Global, tokens: &[Token]) -> Result<(Entry, &[Token]), Halt<'_>>
 
 /// `{ #include text | module }`, all of the tokens.
 pub(crate) fn file(alloc: Global, tokens: &[Token]) -> Result<List<Entry>, Halt<'_>>
-    ensures { Returns (λ entries. entries) result (file_at MAX_NESTING tokens.now) }
+    ensures { Returns (λ entries. entries) result (file_at nesting_limit tokens.now) }
 {
     let mut entries = List::new(alloc);
     let mut rest = tokens;

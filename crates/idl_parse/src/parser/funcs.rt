@@ -1,9 +1,11 @@
 ghost use Rattle.std.specs.Prelude.{◌≡◌};
+ghost use Rattle.idl_parse.specs.Grammar.{nesting_limit};
 ghost use Rattle.idl_parse.specs.Reading.{Returns, with_front, maybe_at, one_at, behind_at, param_at, param_behind_at, more_params_at, first_params_at, no_params_at, params_at, void_at, some_type_at, ret_at, func_at, ended_at, funcs_at};
 ghost use Rattle.idl_parse.specs.declared.sign.Sign.TheVariants.{OpenParen as open_paren};
 ghost use Rattle.idl_parse.specs.declared.kind.Kind.TheVariants.{Keyword as word_kind};
 
 use super::halt::Halt;
+use super::items::{Item, until, until_after};
 use super::token::{begins, one, place};
 use super::types::{MAX_NESTING, type_tree, typed};
 use crate::keyword::Keyword;
@@ -28,7 +30,7 @@ fn maybe_word(word: Keyword, tokens: &[Token]) -> Result<(Option<Token>, &[Token
 /// `[ routekey ] [ out ] type ident`
 #[tactic(auto, unfolding(crate::specs::Reading::param_at))]
 fn param(alloc: Global, tokens: &[Token]) -> Result<(ParamTree, &[Token]), Halt<'_>>
-    ensures { Returns (λ x. (x.0, x.1.now)) result (param_at MAX_NESTING tokens.now) }
+    ensures { Returns (λ x. (x.0, x.1.now)) result (param_at nesting_limit tokens.now) }
 {
     let (routekey, rest) = maybe_word(Keyword::Routekey, tokens)?;
     let (out, rest) = maybe_word(Keyword::Out, rest)?;
@@ -48,40 +50,29 @@ fn param(alloc: Global, tokens: &[Token]) -> Result<(ParamTree, &[Token]), Halt<
 /// `, param`
 #[tactic(auto, unfolding(crate::specs::Reading::param_behind_at))]
 fn param_behind(alloc: Global, tokens: &[Token]) -> Result<(ParamTree, &[Token]), Halt<'_>>
-    ensures { Returns (λ x. (x.0, x.1.now)) result (param_behind_at MAX_NESTING tokens.now) }
+    ensures { Returns (λ x. (x.0, x.1.now)) result (param_behind_at nesting_limit tokens.now) }
 {
     let (_, rest) = one(Kind::Sign(Sign::Comma), tokens)?;
     param(alloc, rest)
 }
 
-/// `{ , param } )`, behind these.
-fn more_params(
-    alloc: Global,
-    params: List<ParamTree>,
-    tokens: &[Token],
-) -> Result<(List<ParamTree>, &[Token]), Halt<'_>>
-    ensures { Returns (λ x. (x.0, x.1.now)) result (with_front params (more_params_at MAX_NESTING tokens.now)) }
-{
-    let mut params = params;
-    let mut rest = tokens;
-    while !begins(Kind::Sign(Sign::CloseParen), rest) {
-        let (param, after) = param_behind(alloc, rest)?;
-        params.push(param)?;
-        rest = after;
+impl Item for ParamTree {
+    ghost reading = { param_behind_at nesting_limit };
+
+    fn read(alloc: Global, tokens: &[Token]) -> Result<(ParamTree, &[Token]), Halt<'_>> {
+        param_behind(alloc, tokens)
     }
-    let (_, rest) = one(Kind::Sign(Sign::CloseParen), rest)?;
-    Ok((params, rest))
 }
 
 /// `param { , param } )`
-#[tactic(auto, unfolding(crate::specs::Reading::first_params_at))]
+#[tactic(auto, using(crate::proofs::Turns::param_turn), unfolding(crate::specs::Reading::first_params_at, crate::specs::Reading::more_params_at))]
 fn first_params(alloc: Global, tokens: &[Token]) -> Result<(List<ParamTree>, &[Token]), Halt<'_>>
-    ensures { Returns (λ x. (x.0, x.1.now)) result (first_params_at MAX_NESTING tokens.now) }
+    ensures { Returns (λ x. (x.0, x.1.now)) result (first_params_at nesting_limit tokens.now) }
 {
     let (first, rest) = param(alloc, tokens)?;
     let mut params = List::new(alloc);
     params.push(first)?;
-    more_params(alloc, params, rest)
+    until_after(alloc, Sign::CloseParen, params, rest)
 }
 
 #[tactic(auto, unfolding(crate::specs::Reading::no_params_at))]
@@ -95,7 +86,7 @@ fn no_params(alloc: Global, tokens: &[Token]) -> Result<(List<ParamTree>, &[Toke
 /// `[ param { , param } ] )`
 #[tactic(auto, unfolding(crate::specs::Reading::params_at))]
 fn params(alloc: Global, tokens: &[Token]) -> Result<(List<ParamTree>, &[Token]), Halt<'_>>
-    ensures { Returns (λ x. (x.0, x.1.now)) result (params_at MAX_NESTING tokens.now) }
+    ensures { Returns (λ x. (x.0, x.1.now)) result (params_at nesting_limit tokens.now) }
 {
     if begins(Kind::Sign(Sign::CloseParen), tokens) {
         no_params(alloc, tokens)
@@ -106,7 +97,7 @@ fn params(alloc: Global, tokens: &[Token]) -> Result<(List<ParamTree>, &[Token])
 
 /// `( [ param { , param } ] )`
 fn behind_paren(alloc: Global, tokens: &[Token]) -> Result<(List<ParamTree>, &[Token]), Halt<'_>>
-    ensures { Returns (λ x. (x.0, x.1.now)) result (behind_at open_paren (params_at MAX_NESTING) tokens.now) }
+    ensures { Returns (λ x. (x.0, x.1.now)) result (behind_at open_paren (params_at nesting_limit) tokens.now) }
 {
     let (_, rest) = one(Kind::Sign(Sign::OpenParen), tokens)?;
     params(alloc, rest)
@@ -122,7 +113,7 @@ fn void(tokens: &[Token]) -> Result<(Option<TypeTree>, &[Token]), Halt<'_>>
 
 #[tactic(auto, unfolding(crate::specs::Reading::some_type_at))]
 fn some_type(alloc: Global, tokens: &[Token]) -> Result<(Option<TypeTree>, &[Token]), Halt<'_>>
-    ensures { Returns (λ x. (x.0, x.1.now)) result (some_type_at MAX_NESTING tokens.now) }
+    ensures { Returns (λ x. (x.0, x.1.now)) result (some_type_at nesting_limit tokens.now) }
 {
     let (ty, rest) = type_tree(alloc, MAX_NESTING, tokens)?;
     Ok((Some(ty), rest))
@@ -131,7 +122,7 @@ fn some_type(alloc: Global, tokens: &[Token]) -> Result<(Option<TypeTree>, &[Tok
 /// `void | type`
 #[tactic(auto, unfolding(crate::specs::Reading::ret_at))]
 fn ret(alloc: Global, tokens: &[Token]) -> Result<(Option<TypeTree>, &[Token]), Halt<'_>>
-    ensures { Returns (λ x. (x.0, x.1.now)) result (ret_at MAX_NESTING tokens.now) }
+    ensures { Returns (λ x. (x.0, x.1.now)) result (ret_at nesting_limit tokens.now) }
 {
     if begins(Kind::Keyword(Keyword::Void), tokens) {
         void(tokens)
@@ -143,7 +134,7 @@ fn ret(alloc: Global, tokens: &[Token]) -> Result<(Option<TypeTree>, &[Token]), 
 /// `( void | type ) ident ( [ param { , param } ] )`
 #[tactic(auto, unfolding(crate::specs::Reading::func_at))]
 fn func(alloc: Global, tokens: &[Token]) -> Result<(FuncTree, &[Token]), Halt<'_>>
-    ensures { Returns (λ x. (x.0, x.1.now)) result (func_at MAX_NESTING tokens.now) }
+    ensures { Returns (λ x. (x.0, x.1.now)) result (func_at nesting_limit tokens.now) }
 {
     let (ret, rest) = ret(alloc, tokens)?;
     let (name, rest) = place(Kind::Ident, rest)?;
@@ -153,24 +144,25 @@ fn func(alloc: Global, tokens: &[Token]) -> Result<(FuncTree, &[Token]), Halt<'_
 
 /// `func ;`
 fn ended_func(alloc: Global, tokens: &[Token]) -> Result<(FuncTree, &[Token]), Halt<'_>>
-    ensures { Returns (λ x. (x.0, x.1.now)) result (ended_at (func_at MAX_NESTING) tokens.now) }
+    ensures { Returns (λ x. (x.0, x.1.now)) result (ended_at (func_at nesting_limit) tokens.now) }
 {
     let (func, rest) = func(alloc, tokens)?;
     let (_, rest) = one(Kind::Sign(Sign::Semicolon), rest)?;
     Ok((func, rest))
 }
 
-/// `{ func ; } }`
-pub(super) fn funcs(alloc: Global, tokens: &[Token]) -> Result<(List<FuncTree>, &[Token]), Halt<'_>>
-    ensures { Returns (λ x. (x.0, x.1.now)) result (funcs_at MAX_NESTING tokens.now) }
-{
-    let mut funcs = List::new(alloc);
-    let mut rest = tokens;
-    while !begins(Kind::Sign(Sign::CloseBrace), rest) {
-        let (func, after) = ended_func(alloc, rest)?;
-        funcs.push(func)?;
-        rest = after;
+impl Item for FuncTree {
+    ghost reading = { ended_at (func_at nesting_limit) };
+
+    fn read(alloc: Global, tokens: &[Token]) -> Result<(FuncTree, &[Token]), Halt<'_>> {
+        ended_func(alloc, tokens)
     }
-    let (_, rest) = one(Kind::Sign(Sign::CloseBrace), rest)?;
-    Ok((funcs, rest))
+}
+
+/// `{ func ; } }`
+#[tactic(auto, using(crate::proofs::Turns::func_turn), unfolding(crate::specs::Reading::funcs_at))]
+pub(super) fn funcs(alloc: Global, tokens: &[Token]) -> Result<(List<FuncTree>, &[Token]), Halt<'_>>
+    ensures { Returns (λ x. (x.0, x.1.now)) result (funcs_at nesting_limit tokens.now) }
+{
+    until(alloc, Sign::CloseBrace, tokens)
 }

@@ -6,7 +6,7 @@ use crate::token::Token;
 use std::alloc::AllocError;
 
 /// Why the parser stops, and the tokens that are left there.
-#[derive(Clone, Copy, Debug)]
+#[derive(Clone, Copy)]
 pub(crate) enum Halt<'a> {
     At { left: &'a [Token], why: ParseWhy },
     Memory,

@@ -1,10 +1,12 @@
 ghost use Rattle.std.specs.Prelude.{◌≡◌};
+ghost use Rattle.idl_parse.specs.Grammar.{nesting_limit};
 ghost use Rattle.idl_parse.specs.Reading.{Returns, means_at, array_at, maybe_at, default_at, member_end_at, member_at, ended_at, members_at};
 ghost use Rattle.idl_parse.specs.Words.{requirement_of};
 ghost use Rattle.idl_parse.specs.declared.kind.Kind.TheVariants.{Sign as sign_kind};
 ghost use Rattle.idl_parse.specs.declared.sign.Sign.TheVariants.{OpenBracket as open_bracket, Equals as equals};
 
 use super::halt::Halt;
+use super::items::{Item, until};
 use super::names::{array, default};
 use super::token::{begins, one, place};
 use super::types::{MAX_NESTING, typed};
@@ -80,7 +82,7 @@ fn member_end(tokens: &[Token]) -> Result<((Option<ArrayLen>, Option<Literal>), 
 
 #[tactic(auto, unfolding(crate::specs::Reading::member_at))]
 fn member(alloc: Global, tokens: &[Token]) -> Result<(MemberTree, &[Token]), Halt<'_>>
-    ensures { Returns (λ x. (x.0, x.1.now)) result (member_at MAX_NESTING tokens.now) }
+    ensures { Returns (λ x. (x.0, x.1.now)) result (member_at nesting_limit tokens.now) }
 {
     let (tag, rest) = place(Kind::Number, tokens)?;
     let ((_, require), rest) = requirement(rest)?;
@@ -100,27 +102,28 @@ fn member(alloc: Global, tokens: &[Token]) -> Result<(MemberTree, &[Token]), Hal
 
 /// `member ;`
 fn ended_member(alloc: Global, tokens: &[Token]) -> Result<(MemberTree, &[Token]), Halt<'_>>
-    ensures { Returns (λ x. (x.0, x.1.now)) result (ended_at (member_at MAX_NESTING) tokens.now) }
+    ensures { Returns (λ x. (x.0, x.1.now)) result (ended_at (member_at nesting_limit) tokens.now) }
 {
     let (member, rest) = member(alloc, tokens)?;
     let (_, rest) = one(Kind::Sign(Sign::Semicolon), rest)?;
     Ok((member, rest))
 }
 
+impl Item for MemberTree {
+    ghost reading = { ended_at (member_at nesting_limit) };
+
+    fn read(alloc: Global, tokens: &[Token]) -> Result<(MemberTree, &[Token]), Halt<'_>> {
+        ended_member(alloc, tokens)
+    }
+}
+
 /// `{ member ; } }`
+#[tactic(auto, using(crate::proofs::Turns::member_turn), unfolding(crate::specs::Reading::members_at))]
 pub(super) fn members(
     alloc: Global,
     tokens: &[Token],
 ) -> Result<(List<MemberTree>, &[Token]), Halt<'_>>
-    ensures { Returns (λ x. (x.0, x.1.now)) result (members_at MAX_NESTING tokens.now) }
+    ensures { Returns (λ x. (x.0, x.1.now)) result (members_at nesting_limit tokens.now) }
 {
-    let mut members = List::new(alloc);
-    let mut rest = tokens;
-    while !begins(Kind::Sign(Sign::CloseBrace), rest) {
-        let (member, after) = ended_member(alloc, rest)?;
-        members.push(member)?;
-        rest = after;
-    }
-    let (_, rest) = one(Kind::Sign(Sign::CloseBrace), rest)?;
-    Ok((members, rest))
+    until(alloc, Sign::CloseBrace, tokens)
 }

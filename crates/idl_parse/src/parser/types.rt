@@ -1,4 +1,5 @@
 ghost use Rattle.std.specs.Prelude.{◌≡◌, suc};
+ghost use Rattle.idl_parse.specs.Grammar.{nesting_limit};
 ghost use Rattle.idl_parse.specs.Reading.{Returns, basic_at, unsigned_at, named_at, is_type_start, no_room_at, flat_at, behind_at, vector_at, map_at, type_with, type_at, typed_at};
 ghost use Rattle.idl_parse.specs.Words.{basic_of, unsigned_of};
 
@@ -247,7 +248,7 @@ pub(super) fn type_tree(
 /// `type ident`
 #[tactic(auto, unfolding(crate::specs::Reading::typed_at))]
 pub(super) fn typed(alloc: Global, tokens: &[Token]) -> Result<(TypedName, &[Token]), Halt<'_>>
-    ensures { Returns (λ x. (x.0, x.1.now)) result (typed_at MAX_NESTING tokens.now) }
+    ensures { Returns (λ x. (x.0, x.1.now)) result (typed_at nesting_limit tokens.now) }
 {
     let (ty, rest) = type_tree(alloc, MAX_NESTING, tokens)?;
     let (name, rest) = place(Kind::Ident, rest)?;

@@ -3,35 +3,35 @@ use crate::span::Span;
 use tars_model::List;
 
 /// A struct, its members in text order.
-#[derive(Debug, Drop)]
+#[derive(Drop)]
 pub struct StructTree {
     pub name: Span,
     pub members: List<MemberTree>,
 }
 
 /// An enumerator, with its number where one is written.
-#[derive(Clone, Copy, Debug, PartialEq, Eq)]
+#[derive(Clone, Copy, PartialEq, Eq)]
 pub struct EnumItem {
     pub name: Span,
     pub number: Option<Span>,
 }
 
 /// An enum, its enumerators in text order.
-#[derive(Debug, Drop)]
+#[derive(Drop)]
 pub struct EnumTree {
     pub name: Span,
     pub items: List<EnumItem>,
 }
 
 /// A constant.
-#[derive(Debug, Drop)]
+#[derive(Drop)]
 pub struct ConstTree {
     pub typed: TypedName,
     pub value: Literal,
 }
 
 /// The members by which structs of a name are sorted.
-#[derive(Debug, Drop)]
+#[derive(Drop)]
 pub struct KeyTree {
     /// The struct's name, and behind it the members' names.
     pub of: Span,
@@ -39,14 +39,14 @@ pub struct KeyTree {
 }
 
 /// An interface, its functions in text order.
-#[derive(Debug, Drop)]
+#[derive(Drop)]
 pub struct InterfaceTree {
     pub name: Span,
     pub funcs: List<FuncTree>,
 }
 
 /// What a module declares.
-#[derive(Debug, Drop)]
+#[derive(Drop)]
 pub enum DeclTree {
     Struct(StructTree),
     Enum(EnumTree),

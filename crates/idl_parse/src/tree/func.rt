@@ -3,7 +3,7 @@ use crate::span::Span;
 use tars_model::List;
 
 /// A parameter. `routekey` is where that word stands.
-#[derive(Debug, Drop)]
+#[derive(Drop)]
 pub struct ParamTree {
     pub routekey: Option<u32>,
     pub out: bool,
@@ -11,7 +11,7 @@ pub struct ParamTree {
 }
 
 /// A function. It is `void` where it has no type.
-#[derive(Debug, Drop)]
+#[derive(Drop)]
 pub struct FuncTree {
     pub ret: Option<TypeTree>,
     pub name: Span,

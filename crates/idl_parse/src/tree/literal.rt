@@ -12,7 +12,7 @@ pub enum LiteralWord {
 }
 
 /// A default or the value of a constant.
-#[derive(Clone, Copy, Debug, PartialEq, Eq)]
+#[derive(Clone, Copy, PartialEq, Eq)]
 pub enum Literal {
     /// A number, fraction, text (with its quotes, escapes as they are written) or truth value.
     Word { word: LiteralWord, place: Span },

@@ -2,14 +2,14 @@ use super::{Literal, TypedName};
 use crate::span::Span;
 
 /// `[length]` behind a member's name. `at` is where the `[` stands.
-#[derive(Clone, Copy, Debug, PartialEq, Eq)]
+#[derive(Clone, Copy, PartialEq, Eq)]
 pub struct ArrayLen {
     pub at: u32,
     pub length: Span,
 }
 
 /// A member of a struct.
-#[derive(Debug, Drop)]
+#[derive(Drop)]
 pub struct MemberTree {
     pub tag: Span,
     pub require: bool,

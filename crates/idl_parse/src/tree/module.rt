@@ -3,14 +3,14 @@ use crate::span::Span;
 use tars_model::List;
 
 /// A block of a module, its declarations in text order.
-#[derive(Debug, Drop)]
+#[derive(Drop)]
 pub struct ModuleTree {
     pub name: Span,
     pub decls: List<DeclTree>,
 }
 
 /// What a file has: includes, by the place of the text, and modules.
-#[derive(Debug, Drop)]
+#[derive(Drop)]
 pub enum Entry {
     Include(Span),
     Module(ModuleTree),

@@ -19,14 +19,14 @@ pub enum BasicType {
 }
 
 /// `first`, or `first::second`.
-#[derive(Clone, Copy, Debug, PartialEq, Eq)]
+#[derive(Clone, Copy, PartialEq, Eq)]
 pub struct ScopedName {
     pub first: Span,
     pub second: Option<Span>,
 }
 
 /// A type as it is written. `at` is where its first token begins.
-#[derive(Debug, Drop)]
+#[derive(Drop)]
 pub enum TypeTree {
     Basic {
         at: u32,
@@ -45,7 +45,7 @@ pub enum TypeTree {
 }
 
 /// A type and the name of what has it.
-#[derive(Debug, Drop)]
+#[derive(Drop)]
 pub struct TypedName {
     pub ty: TypeTree,
     pub name: Span,

@@ -1,5 +1,6 @@
 use Rattle.std.proofs.Common.{sym, ◌∙◌, length}
 use Rattle.idl_parse.proofs.FileLaws.{file_sound, file_complete, entries_of}
+use Rattle.idl_parse.proofs.Nestings.{file_places}
 use Rattle.idl_parse.proofs.ParseSteps.{no_file, true_fault, refused_fault}
 use Rattle.idl_parse.proofs.ast.parse.Goals as goal
 
@@ -20,3 +21,20 @@ returns-clause-read c = file_sound 15 c.args.tokens.now c.in-Ok.entries c.in-Ok.
 
 pub returns-clause-only : goal.returns-clause-only
 returns-clause-only c = λ entries is. entries_of (sym c.in-Ok.ensures ∙ file_complete 15 c.args.tokens.now entries is)
+
+pub include_names-requires : goal.include_names-requires
+include_names-requires c =
+    rw c.as_slice.ensures (file_places 16 c.args.text.now c.args.tokens.now c.in-Ok.entries c.requires.tokens (file_sound 15 c.args.tokens.now c.in-Ok.entries c.in-Ok.ensures))
+
+pub invariant_of-result : goal.invariant_of-result
+invariant_of-result c =
+    let names = rw c.as_slice.ensures at c.in_ok-includes.ensures in
+    rw c.in_ok-text.ensures (record {
+      short = c.requires.short;
+      file = record {
+        tokens = c.args.tokens.now;
+        are = c.requires.tokens;
+        derived = file_sound 15 c.args.tokens.now c.in-Ok.entries c.in-Ok.ensures;
+      };
+      names = names;
+    })

@@ -1,5 +1,5 @@
 use Rattle.std.proofs.Common.{◌≡◌, ◌++◌, drop}
-use Rattle.idl_parse.specs.Escapes.{unescaped_from, unescaped}
+use Rattle.idl_parse.specs.EscapeSteps.{unescaped_from, unescaped}
 use Rattle.idl_parse.proofs.escape.unescaped.Given as goal
 
 abbrev pub invariant-loop-byte : goal.invariant-loop-byte

@@ -1,4 +1,5 @@
 use Rattle.idl_parse.proofs.SpanLaws.{spans_are}
+use Rattle.idl_parse.proofs.TextLaws.{one_spelling}
 use Rattle.idl_parse.proofs.TextOutcomes.{one_tokens, one_lex_fault, not_both}
 use Rattle.idl_parse.proofs.TotalLaws.{some_outcome}
 use Rattle.idl_parse.proofs.lexer.one_outcome.Goals as goal
@@ -17,3 +18,6 @@ returns-clause-not_both c = not_both
 
 pub returns-clause-spans : goal.returns-clause-spans
 returns-clause-spans c = spans_are
+
+pub returns-clause-spelling : goal.returns-clause-spelling
+returns-clause-spelling c = one_spelling

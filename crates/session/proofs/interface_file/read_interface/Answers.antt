@@ -34,13 +34,13 @@ returns-in-Some c =
       only = rw c.as_slice.ensures c.in_ok-tokens.ensures.only;
       sound = c.in_ok-tokens.ensures.refused;
     } in
-    let parsed : Parsed c.args.text.now c.as_slice.result.now c.as_slice-2.result.now =
+    let parsed : Parsed c.args.text.now c.as_slice.result.now c.entries.result.now =
     record {
-      is = rw c.as_slice-2.ensures c.in_ok-ast.ensures.read;
-      only = rw c.as_slice-2.ensures c.in_ok-ast.ensures.only;
+      is = rw c.entries.ensures.entries c.in_ok-ast.ensures.read;
+      only = rw c.entries.ensures.entries c.in_ok-ast.ensures.only;
       sound = c.in_ok-ast.ensures.refused;
     } in
-    judged_names c.args.text.now c.as_slice.result.now c.as_slice-2.result.now _ lexed parsed c.in-Some.ensures
+    judged_names c.args.text.now c.as_slice.result.now c.entries.result.now _ lexed parsed c.in-Some.ensures
 
 pub returns : goal.returns
 returns c =
@@ -51,10 +51,10 @@ returns c =
       only = rw c.as_slice.ensures c.in_ok-tokens.ensures.only;
       sound = c.in_ok-tokens.ensures.refused;
     } in
-    let parsed : Parsed c.args.text.now c.as_slice.result.now c.as_slice-2.result.now =
+    let parsed : Parsed c.args.text.now c.as_slice.result.now c.entries.result.now =
     record {
-      is = rw c.as_slice-2.ensures c.in_ok-ast.ensures.read;
-      only = rw c.as_slice-2.ensures c.in_ok-ast.ensures.only;
+      is = rw c.entries.ensures.entries c.in_ok-ast.ensures.read;
+      only = rw c.entries.ensures.entries c.in_ok-ast.ensures.only;
       sound = c.in_ok-ast.ensures.refused;
     } in
-    judged_shape c.args.text.now c.as_slice.result.now c.as_slice-2.result.now lexed parsed c.in-None.ensures
+    judged_shape c.args.text.now c.as_slice.result.now c.entries.result.now lexed parsed c.in-None.ensures

@@ -1,0 +1,36 @@
+use Rattle.std.proofs.Common.{◌≡◌, true, false, rules}
+use Rattle.std.proofs.lemmas.Result.{err_from_is_err_and}
+use Rattle.idl_parse.specs.Kinds.{begins}
+use Rattle.idl_parse.specs.Reading.{with_front, until_at}
+use Rattle.idl_parse.specs.declared.kind.Kind.TheVariants.{Sign}
+use Rattle.idl_parse.proofs.LoopSteps.{loop_goes_on, loop_fails, loop_ends, loop_end_fails}
+use Rattle.idl_parse.proofs.parser.items.until_after.Goals as goal
+
+pub returns-in_err-item : goal.returns-in_err-item
+returns-in_err-item g c =
+    let f = g.T.Item.reading in
+    let b : begins (Sign c.args.close) c.items.rest.now ≡ false = search rules in
+    let p = err_from_is_err_and c.from_residual.result c.from_residual.ensures.1 in
+    rw (p.1, p.2) (loop_fails c.args.close f c.requires c.in_err-item.field-0.0 c.items.items c.items.rest.now (with_front c.args.before (until_at c.args.close f c.args.tokens.now)) b c.in_err-item.ensures c.items.invariant)
+
+pub items-smaller : goal.items-smaller
+items-smaller g c = c.requires c.items.rest.now c.in_ok-item.item c.in_ok-item.after.now c.in_ok-item.ensures
+
+pub items-preserved : goal.items-preserved
+items-preserved g c =
+    let f = g.T.Item.reading in
+    let b : begins (Sign c.args.close) c.items.rest.now ≡ false = search rules in
+    rw c.in_ok-push.ensures.ok (loop_goes_on c.args.close f c.requires c.items.items c.items.rest.now c.in_ok-item.item c.in_ok-item.after.now (with_front c.args.before (until_at c.args.close f c.args.tokens.now)) b c.in_ok-item.ensures c.items.invariant)
+
+pub returns-in_err-rest : goal.returns-in_err-rest
+returns-in_err-rest g c =
+    let f = g.T.Item.reading in
+    let b : begins (Sign c.args.close) c.items.rest.now ≡ true = search rules in
+    let p = err_from_is_err_and c.from_residual-in_err-rest.result c.from_residual-in_err-rest.ensures.1 in
+    rw (p.1, p.2) (loop_end_fails c.args.close f c.requires c.in_err-rest.field-0.0 c.items.items c.items.rest.now (with_front c.args.before (until_at c.args.close f c.args.tokens.now)) b c.in_err-rest.ensures c.items.invariant)
+
+pub returns : goal.returns
+returns g c =
+    let f = g.T.Item.reading in
+    let b : begins (Sign c.args.close) c.items.rest.now ≡ true = search rules in
+    loop_ends c.args.close f c.requires c.items.items c.items.rest.now _ c.in_ok-rest.rest.now (with_front c.args.before (until_at c.args.close f c.args.tokens.now)) b c.in_ok-rest.ensures c.items.invariant

@@ -1,9 +1,0 @@
-use Rattle.std.proofs.Common.{◌≡◌, length}
-use Rattle.idl_parse.specs.Reading.{with_front, members_at}
-use Rattle.idl_parse.proofs.parser.members.members.Given as goal
-
-abbrev pub invariant-loop-alloc : goal.invariant-loop-alloc
-invariant-loop-alloc l = with_front l.members (members_at 16 l.rest) ≡ members_at 16 l.tokens
-
-abbrev pub decreases-loop-alloc : goal.decreases-loop-alloc
-decreases-loop-alloc l = length l.rest
