@@ -43,3 +43,4 @@ pub mod TypeWalks
 pub mod Until
 pub mod Walks
 pub mod WordLaws
+pub mod CallerLemmas

@@ -12,7 +12,8 @@ use Rattle.script_text.specs.ScriptText.{EventText, event_line, IsEvent}
 use Rattle.script_text.specs.TextLimits.{MAX_LINE}
 use Rattle.script_text.specs.ScriptText as script
 use Rattle.script_text.specs.ScriptSteps.{call_on, event_on, short, events_on}
-use Rattle.script_text.proofs.Readers.{IsWhole, bind_some, bind_is, some_is, skip_whole, before_front, and_whole, map_whole}
+use Rattle.facts.proofs.OptionLaws.{bind_some, bind_is, some_is}
+use Rattle.script_text.proofs.Readers.{IsWhole, skip_whole, before_front, and_whole, map_whole}
 use Rattle.script_text.proofs.Names.{lacks_from, name_before_front}
 use Rattle.script_text.proofs.Numbers.{number_whole, number_lacks}
 use Rattle.script_text.proofs.Lines.{IsPlain}

@@ -4,7 +4,7 @@ use Rattle.std.proofs.lemmas.List.{append-nil}
 use Rattle.script_text.specs.Reading.{EventValue}
 use Rattle.facts.specs.OptionSteps.{◌>>=◌}
 use Rattle.script_text.specs.ScriptSteps.{lines_of, short, event_on, event_at, events_on}
-use Rattle.script_text.proofs.Readers.{bind_some, bind_is, some_is}
+use Rattle.facts.proofs.OptionLaws.{bind_some, bind_is, some_is}
 use Rattle.script_text.proofs.Lines.{first_line, behind_line, lines_of_first}
 use Rattle.script_text.proofs.LineReaders.{on_line_is}
 

@@ -10,7 +10,8 @@ use Rattle.script_text.specs.ScriptText.{IsFileName, IsWordOf, is_part_byte, is_
 use Rattle.script_text.specs.TextLimits.{MAX_PORT, MAX_TIMEOUT, MAX_LINE}
 use Rattle.script_text.specs.Scan.{utf8, before, ◌&>◌}
 use Rattle.script_text.specs.ScriptSteps.{is_word_of, is_file_byte, file_name, client_at, interface_at, servant_at, part, host, id, node, object_at, HeaderValue, header_from, header_at}
-use Rattle.script_text.proofs.Readers.{chosen, lacks, IsWhole, bind_some, bind_is, some_is, tested_whole, skip_whole, before_front, and_whole}
+use Rattle.facts.proofs.OptionLaws.{chosen, bind_some, bind_is, some_is}
+use Rattle.script_text.proofs.Readers.{lacks, IsWhole, tested_whole, skip_whole, before_front, and_whole}
 use Rattle.script_text.proofs.Names.{lacks_from, name_whole, name_before_front}
 use Rattle.script_text.proofs.Texts.{utf8_takes, utf8_again}
 use Rattle.script_text.proofs.Numbers.{natural_lacks, natural_within_whole}

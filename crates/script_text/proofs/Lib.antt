@@ -8,3 +8,4 @@ pub mod EventsLoop
 pub mod HeaderLaws
 pub mod EventLaws
 pub mod ScriptLaws
+pub mod CallerLemmas

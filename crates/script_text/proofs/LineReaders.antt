@@ -5,7 +5,8 @@ use Rattle.facts.specs.OptionSteps.{◌>>=◌}
 use Rattle.script_text.specs.Scan.{Whole, Front, ◌&◌}
 use Rattle.script_text.specs.TextLimits.{MAX_LINE}
 use Rattle.script_text.specs.ScriptSteps.{line_at, on_line, lines_of, short}
-use Rattle.script_text.proofs.Readers.{chosen, IsWhole, bind_some, bind_is, some_is}
+use Rattle.facts.proofs.OptionLaws.{chosen, bind_some, bind_is, some_is}
+use Rattle.script_text.proofs.Readers.{IsWhole}
 use Rattle.script_text.proofs.Lines.{first_line, behind_line, lines_of_first}
 
 -- a line that is read is the first one, unless it is too long

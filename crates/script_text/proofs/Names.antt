@@ -10,7 +10,7 @@ use Rattle.std.proofs.lemmas.Slice.Eq.{bytes_eq-Decides}
 use Rattle.idl_parse.specs.declared.keyword.Keyword.{Keyword}
 use Rattle.idl_parse.specs.Lexing.{keyword_of}
 use Rattle.idl_parse.specs.Spellings.{keyword_text}
-use Rattle.idl_parse.proofs.WordLaws.{keyword_means, keyword_found, keyword_is}
+use Rattle.idl_parse.proofs.CallerLemmas.{keyword_means, keyword_found, keyword_is}
 use Rattle.script_text.specs.TextLimits.{MAX_NAME}
 use Rattle.script_text.specs.Words.{is_letter, IsName}
 use Rattle.script_text.specs.Scan.{is_keyword, is_name, name, name_before}

@@ -19,7 +19,8 @@ use Rattle.tars_model.specs.Fits.{is_int}
 use Rattle.script_text.specs.Scan.{utf8}
 use Rattle.script_text.proofs.Texts.{utf8_takes}
 use Rattle.script_text.proofs.Names.{lacks_from}
-use Rattle.script_text.proofs.Readers.{lacks, IsWhole, bind_some, bind_is}
+use Rattle.facts.proofs.OptionLaws.{bind_some, bind_is}
+use Rattle.script_text.proofs.Readers.{lacks, IsWhole}
 
 -- digits, in our words
 digits : IsNumeralModel (λ ds. list_all is_digit ds ≡ true) (digits_value 10)

@@ -9,6 +9,7 @@ use Rattle.std.proofs.lemmas.List.{take_at, drop_at, take-append-drop, length-ap
 use Rattle.std.proofs.lemmas.Slice.Eq.{bytes_eq-Decides}
 use Rattle.std.proofs.lemmas.Option.{cond_some}
 use Rattle.facts.specs.OptionSteps.{◌>>=◌}
+use Rattle.facts.proofs.OptionLaws.{bind_some, bind_is, chosen, some_is}
 use Rattle.script_text.specs.Scan.{Whole, Front, after, word_before, tested, skip, before, ◌&◌, ◌&>◌}
 
 -- no byte is c
@@ -24,22 +25,6 @@ pub record IsWhole {V T : Type 0} (read : Whole V) (write : T → List ℕ) (Fit
 pub record IsFront {V T : Type 0} (read : Front V) (write : T → List ℕ) (Fits : T → Type 0) (value : T → V) : Type 0 where
   pub takes : (bytes : List ℕ) (x : V × List ℕ) → read bytes ≡ Some x → (t : T) × (bytes ≡ write t ++ x.1) × Fits t × (x.0 ≡ value t)
   pub again : (t : T) (rest : List ℕ) → Fits t → read (write t ++ rest) ≡ Some (value t, rest)
-
--- the value of a step that found something
-pub bind_some : {A B : Type 0} (r : Option A) (f : A → Option B) (y : B) → (r >>= f) ≡ Some y → (x : A) × (r ≡ Some x) × (f x ≡ Some y)
-bind_some (Some x) f y e = (x, refl, e)
-bind_some None f y e = absurd cc
-
--- what was chosen by a test, where something was found
-pub chosen : {A : Type 0} (b : Bool) (o : Option A) (v : A) → cond b o None ≡ Some v → (b ≡ true) × (o ≡ Some v)
-chosen true o v e = (refl, e)
-chosen false o v e = absurd cc
-
-abbrev found : {A : Type 0} → A → Option A
-found x = Some x
-
-pub some_is : {A : Type 0} (x y : A) → found x ≡ found y → x ≡ y
-some_is x y e = cc
 
 -- ---- a literal
 
@@ -86,10 +71,6 @@ word_before_again c literal word rest h =
 -- a text and what is behind it, itself cut once more
 join_text : (a x b y c : List ℕ) → a ≡ x ++ b → b ≡ y ++ c → a ≡ (x ++ y) ++ c
 join_text a x b y c p q = p ∙ ap (λ (t : List ℕ). x ++ t) q ∙ sym (append_assoc x y c)
-
--- the step behind one that found something
-pub bind_is : {A B : Type 0} (r : Option A) (f : A → Option B) (x : A) → r ≡ Some x → (r >>= f) ≡ f x
-bind_is r f x e = ap (λ (o : Option _). o >>= f) e
 
 pub tested_whole : {test : List ℕ → Bool} {Fits : List ℕ → Type 0} → ((word : List ℕ) → Decides (test word) (Fits word)) → IsWhole (tested test) (λ word. word) Fits (λ word. word)
 tested_whole {test} {Fits} decides = record {

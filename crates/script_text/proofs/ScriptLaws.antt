@@ -13,7 +13,7 @@ use Rattle.script_text.specs.Reading.{EventValue, event_meant, Reads}
 use Rattle.facts.specs.OptionSteps.{◌>>=◌}
 use Rattle.script_text.specs.Scan.{Gives}
 use Rattle.script_text.specs.ScriptSteps.{lines_of, events_on, is_call_value, HeaderValue, header_at, script_of, script_at}
-use Rattle.script_text.proofs.Readers.{chosen, bind_some, bind_is, some_is}
+use Rattle.facts.proofs.OptionLaws.{chosen, bind_some, bind_is, some_is}
 use Rattle.script_text.proofs.Lines.{IsPlain, IsJoined, lines_join, joined_lines}
 use Rattle.script_text.proofs.HeaderLaws.{id_written, HeaderText, client_written, interface_written, object_written, servant_written, header_lines, IsHeader, header_meant, header_read, header_plain}
 use Rattle.script_text.proofs.EventLaws.{event_plain, IsShortEvent, events_take, events_again}

@@ -9,7 +9,7 @@ use Rattle.tars_model.specs.declared.value.Value.{Num}
 use Rattle.tars_model.specs.declared.value.Value.TheOpen as layer
 use Rattle.tars_model.specs.declared.value.Value.TheVariants.{outs-Num}
 use Rattle.tars_codec.specs.Written.{wire_value, written}
-use Rattle.tars_codec.proofs.Layers.{wire_value_at}
+use Rattle.tars_codec.proofs.CallerLemmas.{wire_value_at}
 use Rattle.session.specs.declared.rpc_packet.request.Request.{Request}
 use Rattle.session.specs.declared.rpc_packet.response.Response.{Response}
 use Rattle.session.specs.declared.service.Service.{Service}

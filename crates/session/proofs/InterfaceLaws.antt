@@ -22,7 +22,7 @@ use Rattle.session.specs.declared.interface_file.InterfaceText.{InterfaceText as
 use Rattle.session.specs.InterfaceFile.{InterfaceText, Verdict, accepted, refused, IsJudged, too_long, no_tokens, no_file, another_shape, one_function, interface_in}
 use Rattle.script_text.specs.TextLimits.{MAX_FILE}
 use Rattle.session.specs.InterfaceVerdicts.{verdict_of, lex_refused, parse_refused}
-use Rattle.script_text.proofs.Readers.{some_is}
+use Rattle.facts.proofs.OptionLaws.{some_is}
 
 pub judged_long : (bytes : List ℕ) → MAX_FILE < length bytes → HoldsOnly (IsJudged bytes) (refused TooLong)
 judged_long bytes long = record { holds = too_long long; only = only_this }

@@ -32,7 +32,7 @@ use Rattle.session.proofs.LegalCourses.{opened_are}
 use Rattle.session.proofs.LegalSteps.{IsSoundCourse, run_sound}
 use Rattle.session.proofs.LegalRows.{IsAt, at, headings, scripted_calls, ids_rise, calls_sent, full_exactly, late_exactly, unsent_exactly, picked_exactly, rule_exactly, sent_exactly, picks_same, reports_same}
 use Rattle.session.proofs.LegalReplies.{all_got_rows, used_named, closed_exactly, replied_as}
-use Rattle.script_text.proofs.Readers.{some_is}
+use Rattle.facts.proofs.OptionLaws.{some_is}
 
 -- each call is of the one function
 calls_first : (closed : Bool) (n : ℕ) (es : List EventText) → AllByRecursion (λ (x : Scripted). x.spec.func ≡ 0) (scripted_after closed (events_from n es))

@@ -18,7 +18,7 @@ use Rattle.session.specs.RpcPackets.{response_frame}
 use Rattle.session.specs.Legal.{Scripted, IsUsedPacket, IsUsedId, IsReplied, packet_of}
 use Rattle.session.proofs.LegalCourses.{IsSound, none, full, late, waits, stopped, missed, replied, ended, opened_as}
 use Rattle.session.proofs.LegalRows.{IsCall, is_full, is_late, is_open, is_stopped, is_missed, is_replied, not_closed, names_packet}
-use Rattle.script_text.proofs.Readers.{some_is}
+use Rattle.facts.proofs.OptionLaws.{some_is}
 
 -- the rows of what was got
 abbrev pub all_got_rows : Service → List Opened → List GotFate → List GotRow

@@ -24,7 +24,7 @@ use Rattle.session.specs.Services.{reply_to, service_of}
 use Rattle.session_model.specs.Replies.{Reply, sum, code}
 use Rattle.session.specs.Legal.{Scripted, scripted_after, call_of, heading_of, heading_of_call, was_sent, sent_before, ids_of, RiseAbove, IsRefusal, Says, pick_of, packet_of, picked_of, reported_of, IsSentAs}
 use Rattle.session.proofs.LegalCourses.{IsSound, none, full, late, waits, stopped, missed, replied, ended, opened_as}
-use Rattle.script_text.proofs.Readers.{some_is}
+use Rattle.facts.proofs.OptionLaws.{some_is}
 
 -- Headings, ids and frames, in order.
 

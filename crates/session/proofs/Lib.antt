@@ -25,3 +25,4 @@ pub mod OneAnswer
 pub mod CallLemmas
 pub mod ReportLemmas
 pub mod EventLemmas
+pub mod CallerLemmas

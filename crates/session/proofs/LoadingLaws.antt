@@ -23,7 +23,7 @@ use Rattle.script_text.specs.Reading.{event_of, Reads}
 use Rattle.script_text.specs.ScriptSteps.{is_call_value}
 use Rattle.script_text.specs.ScriptText.{ScriptText, IsScriptText}
 use Rattle.script_text.specs.TextLimits.{MAX_CALLS}
-use Rattle.script_text.proofs.ScriptLaws.{calls_are}
+use Rattle.script_text.proofs.CallerLemmas.{calls_are}
 
 -- ---- the front of a file
 

@@ -10,7 +10,7 @@ use Rattle.session.specs.declared.interface_fault.FileFault.TheVariants.{Shape}
 use Rattle.session.specs.declared.refused_text.ScriptFault.TheVariants.{Form, Value as BadValue}
 use Rattle.session.specs.Loading.{no_script, bad_script, no_interface, bad_interface, bad_value, session}
 use Rattle.script_text.specs.ScriptText.{ScriptText, IsScriptText}
-use Rattle.script_text.proofs.Readers.{some_is}
+use Rattle.facts.proofs.OptionLaws.{some_is}
 use Rattle.session.proofs.OneScript.{Alike, alike, some_script}
 use Rattle.session.proofs.OneSession.{some_agreement, agree_alike, loaded_alike}
 use Rattle.session.proofs.OneVerdict.{one_verdict}

@@ -4,8 +4,8 @@ use Rattle.std.specs.Str.Parse.{digits_value}
 use Rattle.script_text.specs.Reading.{EventValue, event_meant}
 use Rattle.script_text.specs.ScriptSteps.{HeaderValue, script_at}
 use Rattle.script_text.specs.ScriptText.{ScriptText, object_id, IsScriptText}
-use Rattle.script_text.proofs.Readers.{some_is}
-use Rattle.script_text.proofs.ScriptLaws.{meaning, again, takes, id_is}
+use Rattle.facts.proofs.OptionLaws.{some_is}
+use Rattle.script_text.proofs.CallerLemmas.{meaning, again, takes, id_is}
 
 -- two scripts mean the same
 pub record Alike (s t : ScriptText) : Type 0 where

@@ -8,7 +8,7 @@ use Rattle.tars_model.specs.declared.value.Value.{Num, Text, Blob, Map}
 use Rattle.tars_model.specs.declared.value.Value.TheVariants.{outs-Num, outs-Text, outs-Blob, outs-Map}
 use Rattle.tars_model.specs.declared.value.Value.TheOpen as layer
 use Rattle.tars_codec.specs.Written.{wire_value, written}
-use Rattle.tars_codec.proofs.Layers.{wire_value_at}
+use Rattle.tars_codec.proofs.CallerLemmas.{wire_value_at}
 use Rattle.session.specs.declared.rpc_packet.request.Request.{Request}
 use Rattle.session.specs.declared.rpc_packet.response.Response.{Response}
 use Rattle.session.specs.RpcPackets.{IsSendable, IsAnswerable, request_members, request_values, response_members, response_values}

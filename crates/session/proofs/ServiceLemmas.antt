@@ -1,7 +1,7 @@
 -- What the bodies, the request and the response of a call are like.
 use Rattle.std.proofs.Common.{◌≡◌, ◌<◌, ◌≤◌, ◌^◌, ◌⊎◌, inl, inr, ◌+ℤ◌, ℕ, ℤ, Bool, true, false, List, [], ◌∷◌, length, refl, sym, ap, subst, ◌∙◌, of_z, w32, arith, rules, length-append, lit≤}
 use Rattle.tars_model.specs.Fits.{FitMembers, HaveRisingTags, IsInt, is_int}
-use Rattle.tars_model.proofs.Ints.{int_test, int_passes}
+use Rattle.tars_model.proofs.CallerLemmas.{int_test, int_passes}
 use Rattle.tars_model.specs.Members.{required}
 use Rattle.tars_model.specs.declared.ty.Ty.{Int}
 use Rattle.tars_model.specs.declared.ty.Ty.TheVariants.{outs-Int}

@@ -18,7 +18,7 @@ use Rattle.session.specs.InterfaceFile.{InterfaceText}
 use Rattle.session.specs.Loading.{two_way_call, Agree, IsParameter, IsEventOf, events_from, index_of, loaded_of}
 use Rattle.script_text.specs.Reading.{int_of}
 use Rattle.tars_model.specs.Fits.{IsInt, is_int}
-use Rattle.tars_model.proofs.Ints.{int_test, int_passes}
+use Rattle.tars_model.proofs.CallerLemmas.{int_test, int_passes}
 use Rattle.script_text.specs.Reading.{EventValue, event_of, event_meant, Reads}
 use Rattle.script_text.specs.Reading as value
 use Rattle.facts.specs.OptionSteps.{◌>>=◌}
@@ -27,7 +27,7 @@ use Rattle.script_text.specs.ScriptText.{ScriptText, EventText, call, serve, wor
 use Rattle.session.specs.SessionSteps.{index_in, rule_in, call_with, event_in, next_number, events_in, object_in, is_about, session_in}
 use Rattle.session_model.specs.Sessions.{NODE, func_of_two, schema_of_one}
 use Rattle.script_text.specs.Words.{number_of}
-use Rattle.script_text.proofs.Readers.{bind_some, some_is, chosen}
+use Rattle.facts.proofs.OptionLaws.{bind_some, some_is, chosen}
 
 -- ---- places
 

@@ -9,3 +9,4 @@ pub mod Values
 pub mod Loops
 pub mod Entries
 pub mod Members
+pub mod CallerLemmas

@@ -3,7 +3,7 @@ use Rattle.std.proofs.Common.{◌≡◌, ◌⊎◌, inl, inr, ℕ, Bool, true, f
 use Rattle.std.specs.Str.{bytes_eq}
 use Rattle.std.proofs.lemmas.Slice.Eq.{bytes_eq-Decides}
 use Rattle.tars_base.specs.Contents.{Contents, HoldsOnly}
-use Rattle.session.proofs.OneAnswer.{one_answer}
+use Rattle.session.proofs.CallerLemmas.{one_answer}
 use Rattle.tars_tool.specs.Words.{AskForPlan, AreNoForm, is_word}
 use Rattle.tars_tool.specs.Due.{DueAnswer, usage, Due, no_form, plan_unread, plan_refused, plan_done}
 use Rattle.tars_tool.proofs.DueLaws.{due_by, exactly}
