@@ -1,5 +1,5 @@
 ghost use Rattle.std.specs.Prelude.{◌≡◌, map};
-ghost use Rattle.idl_parse.specs.Lexing.{lookup, keyword_of};
+ghost use Rattle.idl_parse.specs.LexSteps.{lookup, keyword_of};
 
 /// The words of the interface language, which are no identifiers (docs/IDL.md, "Tokens").
 #[derive(Clone, Copy, Debug, PartialEq, Eq)]
@@ -72,7 +72,7 @@ fn lookup(mut table: &[(&[u8], Keyword)], word: &[u8]) -> Option<Keyword>
 
 impl Keyword {
     /// The keyword that is written so.
-    #[tactic(auto, unfolding(crate::specs::Lexing::keyword_of))]
+    #[tactic(auto, unfolding(crate::specs::LexSteps::keyword_of))]
     pub(crate) fn from_word(word: &[u8]) -> Option<Keyword>
         ensures { result ≡ keyword_of word.now }
     {

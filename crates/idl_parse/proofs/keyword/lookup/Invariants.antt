@@ -1,5 +1,5 @@
 use Rattle.std.proofs.Common.{◌≡◌, length, map}
-use Rattle.idl_parse.specs.Lexing.{lookup}
+use Rattle.idl_parse.specs.LexSteps.{lookup}
 use Rattle.idl_parse.proofs.keyword.lookup.Given as goal
 
 abbrev pub invariant-loop-table : goal.invariant-loop-table
