@@ -1,5 +1,5 @@
--- How the bytes between quotes are read, byte by byte, as the code does. For the proofs: what a text spells is said
--- in specs/Texts.antt.
+-- For the proofs: how the bytes between quotes are read, byte by byte, as the code does. What a text spells is said in
+-- specs/Texts.antt.
 use Rattle.std.specs.Prelude.{ℕ, ◌+◌, ◌*◌, ◌==◌, if◌then◌else◌, Option, Some, None, List, [], ◌∷◌}
 use Rattle.std.specs.Char.{digit_value, is_digit}
 use Rattle.idl_parse.specs.Bytes.{escaped}

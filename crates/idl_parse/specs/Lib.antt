@@ -6,14 +6,14 @@ pub mod Files
 pub mod Forms
 pub mod Gaps
 pub mod Grammar
-pub mod Kinds
+pub mod KindSteps
 pub mod LexAnswers
+pub mod LexSteps
 pub mod LexWhy
-pub mod Lexing
 pub mod ParseWhy
 pub mod Parsed
 pub mod Places
-pub mod Reading
+pub mod ReadSteps
 pub mod Rules
 pub mod Spans
 pub mod Spellings

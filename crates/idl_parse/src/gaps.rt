@@ -1,7 +1,7 @@
 //! White space and comments.
 
-ghost use Rattle.idl_parse.specs.Lexing as spec;
-ghost use Rattle.idl_parse.specs.Lexing.{Gives};
+ghost use Rattle.idl_parse.specs.LexSteps as spec;
+ghost use Rattle.idl_parse.specs.LexSteps.{Gives};
 ghost use Rattle.std.specs.Prelude.{◌≡◌};
 
 use crate::runs::{Class, split_run};
@@ -20,7 +20,7 @@ fn after_close(mut bytes: &[u8]) -> Option<&[u8]>
 }
 
 /// The bytes from the first line feed on.
-#[tactic(auto, using(crate::proofs::RunLaws::from_feed_is))]
+#[tactic(auto, using(crate::proofs::Lexing::RunLaws::from_feed_is))]
 fn from_feed(bytes: &[u8]) -> &[u8]
     ensures { result.now ≡ spec.from_feed bytes.now }
 {

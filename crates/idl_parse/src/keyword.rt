@@ -1,5 +1,5 @@
 ghost use Rattle.std.specs.Prelude.{◌≡◌, ◌≢◌, MatchOption};
-ghost use Rattle.idl_parse.specs.Lexing.{keyword_among, keyword_of};
+ghost use Rattle.idl_parse.specs.LexSteps.{keyword_among, keyword_of};
 ghost use Rattle.idl_parse.specs.Spellings.{keyword_text};
 ghost use Rattle.idl_parse.specs.declared.keyword.Keyword.{Keyword as AKeyword};
 
@@ -74,7 +74,7 @@ fn keyword_among(mut keywords: &[Keyword], word: &[u8]) -> Option<Keyword>
 }
 
 /// The keyword that is written so, for the lexer.
-#[tactic(auto, unfolding(crate::specs::Lexing::keyword_of))]
+#[tactic(auto, unfolding(crate::specs::LexSteps::keyword_of))]
 pub(crate) fn keyword_of(word: &[u8]) -> Option<Keyword>
     ensures { result ≡ keyword_of word.now }
 {
@@ -115,7 +115,7 @@ impl Keyword {
     }
 
     /// The keyword that is written so.
-    #[tactic(auto, using(crate::proofs::WordLaws::keyword_spelled))]
+    #[tactic(auto, using(crate::proofs::Lexing::WordLaws::keyword_spelled))]
     pub fn from_word(word: &[u8]) -> Option<Keyword>
         ensures { MatchOption result ((keyword : AKeyword) → word.now ≢ keyword_text keyword)
             (λ keyword. word.now ≡ keyword_text keyword) }

@@ -2,10 +2,10 @@
 //! gives the tokens of a text or its first fault from the left, and nothing is copied: a token is a span
 //! of the text. `parse` gives the file that the tokens are, or where and why they are none.
 //!
-//! Read `specs/Forms.antt` and `specs/Tokens.antt` first, which say what tokens and fault a text has, and
-//! then `specs/Grammar.antt`, which has the productions, and `specs/Faults.antt`, which says what fault
-//! tokens have. `specs/Lexing.antt` and `specs/Reading.antt` follow the code's steps and are for the
-//! proofs.
+//! Read `specs/Forms.antt` and `specs/Tokens.antt` first, which say what tokens and fault a text has, then
+//! `specs/Grammar.antt`, which has the productions, `specs/Faults.antt`, which says what fault tokens have,
+//! and `specs/Files.antt` and `specs/Places.antt`, which say what holds of a file that is read. The modules
+//! named `*Steps` follow the code's steps and are for the proofs.
 #![tactic(auto)]
 
 mod ast;

@@ -1,9 +1,9 @@
 //! Numbers and fractions.
 
 ghost use Rattle.std.specs.Prelude.{◌≡◌, ◌≤◌, ◌^◌, ◌<◌};
-ghost use Rattle.idl_parse.specs.Lexing as spec;
-ghost use Rattle.idl_parse.specs.Lexing.{Gives};
-ghost use Rattle.idl_parse.specs.Lexing.{front_of};
+ghost use Rattle.idl_parse.specs.LexSteps as spec;
+ghost use Rattle.idl_parse.specs.LexSteps.{Gives};
+ghost use Rattle.idl_parse.specs.LexSteps.{front_of};
 
 use crate::front::Front;
 use crate::kind::Kind;
@@ -16,7 +16,7 @@ const MOST_BELOW: u64 = 1 << 63;
 const MOST: u64 = (1 << 63) - 1;
 
 /// Whether all are digits of the base and stand for at most `most`.
-#[tactic(auto, unfolding(crate::specs::Lexing::is_at_most))]
+#[tactic(auto, unfolding(crate::specs::LexSteps::is_at_most))]
 fn is_at_most(digits: &[u8], base: u32, most: u64) -> bool
     requires low { 2 ≤ base }
     requires high { base ≤ 16 }
@@ -37,7 +37,7 @@ fn is_at_most(digits: &[u8], base: u32, most: u64) -> bool
 }
 
 /// The number whose digits stand behind `0x`.
-#[tactic(auto, unfolding(crate::specs::Lexing::hexadecimal_at))]
+#[tactic(auto, unfolding(crate::specs::LexSteps::hexadecimal_at))]
 fn hexadecimal(digits: &[u8], most: u64) -> Front<'_>
     ensures { front_of result ≡ spec.hexadecimal_at most digits.now }
 {
@@ -51,7 +51,7 @@ fn hexadecimal(digits: &[u8], most: u64) -> Front<'_>
 }
 
 /// The number or fraction that begins with decimal digits.
-#[tactic(auto, unfolding(crate::specs::Lexing::decimal_at))]
+#[tactic(auto, unfolding(crate::specs::LexSteps::decimal_at))]
 fn decimal(body: &[u8], most: u64) -> Front<'_>
     ensures { front_of result ≡ spec.decimal_at most body.now }
 {
@@ -71,7 +71,7 @@ fn decimal(body: &[u8], most: u64) -> Front<'_>
 }
 
 /// The number or fraction in front, without a minus.
-#[tactic(auto, unfolding(crate::specs::Lexing::unsigned_at))]
+#[tactic(auto, unfolding(crate::specs::LexSteps::unsigned_at))]
 fn unsigned(body: &[u8], most: u64) -> Option<Front<'_>>
     ensures { Gives front_of result (spec.unsigned_at most body.now) }
 {
@@ -85,7 +85,7 @@ fn unsigned(body: &[u8], most: u64) -> Option<Front<'_>>
 }
 
 /// The longest number or fraction in front.
-#[tactic(auto, unfolding(crate::specs::Lexing::number_at))]
+#[tactic(auto, unfolding(crate::specs::LexSteps::number_at))]
 pub fn number(bytes: &[u8]) -> Option<Front<'_>>
     ensures { Gives front_of result (spec.number_at bytes.now) }
 {

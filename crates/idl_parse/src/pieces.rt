@@ -1,8 +1,8 @@
 //! The pieces of a text: white space, comments and tokens.
 
 ghost use Rattle.std.specs.Prelude.{◌≡◌, ◌≢◌, [], false, None, Some, IfOk, IfErr};
-ghost use Rattle.idl_parse.specs.Lexing.{after_gap, begins_comment, sound_front};
-ghost use Rattle.idl_parse.specs.Lexing.{front_of};
+ghost use Rattle.idl_parse.specs.LexSteps.{after_gap, begins_comment, sound_front};
+ghost use Rattle.idl_parse.specs.LexSteps.{front_of};
 ghost use Rattle.idl_parse.specs.Bytes.{begins, is_quote};
 ghost use Rattle.idl_parse.specs.Tokens.{IsPiece, IsFault};
 

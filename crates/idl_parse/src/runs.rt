@@ -3,7 +3,7 @@
 ghost use Rattle.std.specs.Prelude.{◌≡◌, ◌≤◌, length};
 ghost use Rattle.std.specs.List.{prefix_len};
 ghost use Rattle.idl_parse.specs.Bytes.{begins};
-ghost use Rattle.idl_parse.specs.Lexing as spec;
+ghost use Rattle.idl_parse.specs.LexSteps as spec;
 
 /// A set of bytes.
 #[derive(Clone, Copy)]
@@ -38,7 +38,7 @@ fn run_len(bytes: &[u8], class: Class) -> usize
 }
 
 /// The longest front of bytes of the class, and what stands behind it.
-#[tactic(auto, using(crate::proofs::RunLaws::runs))]
+#[tactic(auto, using(crate::proofs::Lexing::RunLaws::runs))]
 pub fn split_run(bytes: &[u8], class: Class) -> (&[u8], &[u8])
     ensures run { result.0.now ≡ spec.run (spec.is_in class) bytes.now }
     ensures rest { result.1.now ≡ spec.after_run (spec.is_in class) bytes.now }

@@ -1,5 +1,5 @@
 ghost use Rattle.std.specs.Prelude.{◌≡◌};
-ghost use Rattle.idl_parse.specs.Lexing.{sign_of};
+ghost use Rattle.idl_parse.specs.LexSteps.{sign_of};
 
 /// The signs of the interface language (docs/IDL.md, "Tokens").
 #[derive(Clone, Copy, Debug, PartialEq, Eq)]
@@ -32,7 +32,7 @@ pub enum Sign {
 
 impl Sign {
     /// The sign of one byte.
-    #[tactic(auto, unfolding(crate::specs::Lexing::sign_of))]
+    #[tactic(auto, unfolding(crate::specs::LexSteps::sign_of))]
     pub(crate) fn from_byte(byte: u8) -> Option<Sign>
         ensures { result ≡ sign_of byte }
     {

@@ -4,8 +4,8 @@ ghost use Rattle.std.specs.Prelude.{◌≡◌, ◌<◌, true, length, drop, IfOk
 ghost use Rattle.idl_parse.specs.Bytes.{begins, is_quote};
 ghost use Rattle.idl_parse.specs.Texts.{IsTextFront};
 ghost use Rattle.idl_parse.specs.Tokens.{IsFault};
-ghost use Rattle.idl_parse.specs.Lexing as spec;
-ghost use Rattle.idl_parse.specs.Lexing.{GivesOk};
+ghost use Rattle.idl_parse.specs.LexSteps as spec;
+ghost use Rattle.idl_parse.specs.LexSteps.{GivesOk};
 
 use crate::fault::Fault;
 use crate::lex_fault::LexWhy;
@@ -33,7 +33,7 @@ fn spoilt_by(byte: u8) -> Stop
 }
 
 /// What stands behind a hexadecimal digit.
-#[tactic(auto, unfolding(crate::specs::Lexing::digit_at))]
+#[tactic(auto, unfolding(crate::specs::LexSteps::digit_at))]
 fn after_digit(bytes: &[u8]) -> Result<&[u8], Stop>
     ensures { GivesOk (λ rest. rest.now) result (spec.digit_at bytes.now) }
 {
@@ -45,7 +45,7 @@ fn after_digit(bytes: &[u8]) -> Result<&[u8], Stop>
 }
 
 /// What stands behind the escape whose backslash came before the bytes.
-#[tactic(auto, unfolding(crate::specs::Lexing::escape_at))]
+#[tactic(auto, unfolding(crate::specs::LexSteps::escape_at))]
 fn after_escape(bytes: &[u8]) -> Result<&[u8], Stop>
     ensures { GivesOk (λ rest. rest.now) result (spec.escape_at bytes.now) }
 {
@@ -58,7 +58,7 @@ fn after_escape(bytes: &[u8]) -> Result<&[u8], Stop>
 }
 
 /// What stands behind the byte or escape of a text in front.
-#[tactic(auto, unfolding(crate::specs::Lexing::unit_at))]
+#[tactic(auto, unfolding(crate::specs::LexSteps::unit_at))]
 fn after_unit(bytes: &[u8]) -> Result<&[u8], Stop>
     ensures { GivesOk (λ rest. rest.now) result (spec.unit_at bytes.now) }
 {

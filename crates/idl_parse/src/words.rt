@@ -1,9 +1,9 @@
 //! The longest token in front of bytes that is no text.
 
 ghost use Rattle.std.specs.Prelude.{◌≡◌};
-ghost use Rattle.idl_parse.specs.Lexing as spec;
-ghost use Rattle.idl_parse.specs.Lexing.{Gives};
-ghost use Rattle.idl_parse.specs.Lexing.{front_of};
+ghost use Rattle.idl_parse.specs.LexSteps as spec;
+ghost use Rattle.idl_parse.specs.LexSteps.{Gives};
+ghost use Rattle.idl_parse.specs.LexSteps.{front_of};
 
 use crate::front::Front;
 use crate::keyword::keyword_of;
@@ -13,7 +13,7 @@ use crate::runs::{Class, is_in, split_run};
 use crate::sign::Sign;
 
 /// The identifier or keyword in front.
-#[tactic(auto, unfolding(crate::specs::Lexing::word_at))]
+#[tactic(auto, unfolding(crate::specs::LexSteps::word_at))]
 fn word(bytes: &[u8]) -> Front<'_>
     ensures { front_of result ≡ spec.word_at bytes.now }
 {
@@ -29,7 +29,7 @@ fn word(bytes: &[u8]) -> Front<'_>
     }
 }
 
-#[tactic(auto, unfolding(crate::specs::Lexing::include_at))]
+#[tactic(auto, unfolding(crate::specs::LexSteps::include_at))]
 fn include(bytes: &[u8]) -> Option<Front<'_>>
     ensures { Gives front_of result (spec.include_at bytes.now) }
 {
@@ -51,7 +51,7 @@ fn sign_front(rest: &[u8], sign: Sign) -> Front<'_>
     }
 }
 
-#[tactic(auto, unfolding(crate::specs::Lexing::sign_at))]
+#[tactic(auto, unfolding(crate::specs::LexSteps::sign_at))]
 fn sign(bytes: &[u8]) -> Option<Front<'_>>
     ensures { Gives front_of result (spec.sign_at bytes.now) }
 {
@@ -62,7 +62,7 @@ fn sign(bytes: &[u8]) -> Option<Front<'_>>
     }
 }
 
-#[tactic(auto, unfolding(crate::specs::Lexing::token_at))]
+#[tactic(auto, unfolding(crate::specs::LexSteps::token_at))]
 pub fn token(bytes: &[u8]) -> Option<Front<'_>>
     ensures { Gives front_of result (spec.token_at bytes.now) }
 {

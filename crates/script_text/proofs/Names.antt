@@ -8,7 +8,7 @@ use Rattle.std.proofs.lemmas.Bool.{and_parts, and_from, or_parts, or_from, not-t
 use Rattle.std.proofs.lemmas.Bool.Decides.{Decides-like, Decides-not}
 use Rattle.std.proofs.lemmas.Slice.Eq.{bytes_eq-Decides}
 use Rattle.idl_parse.specs.declared.keyword.Keyword.{Keyword}
-use Rattle.idl_parse.specs.Lexing.{keyword_of}
+use Rattle.idl_parse.specs.LexSteps.{keyword_of}
 use Rattle.idl_parse.specs.Spellings.{keyword_text}
 use Rattle.idl_parse.proofs.CallerLemmas.{keyword_means, keyword_found, keyword_is}
 use Rattle.script_text.specs.TextLimits.{MAX_NAME}

@@ -1,6 +1,6 @@
 ghost use Rattle.std.specs.Prelude.{◌≡◌};
 ghost use Rattle.idl_parse.specs.Grammar.{nesting_limit};
-ghost use Rattle.idl_parse.specs.Reading.{Returns, heading_at, struct_at, enum_at, const_at, name_behind_at, names_at, behind_at, place_at, key_at, interface_at, other_decl_at, decl_at, ended_at, decls_at};
+ghost use Rattle.idl_parse.specs.ReadSteps.{Returns, heading_at, struct_at, enum_at, const_at, name_behind_at, names_at, behind_at, place_at, key_at, interface_at, other_decl_at, decl_at, ended_at, decls_at};
 ghost use Rattle.idl_parse.specs.declared.kind.Kind.TheVariants.{Ident as ident};
 ghost use Rattle.idl_parse.specs.declared.sign.Sign.TheVariants.{OpenBracket as open_bracket};
 
@@ -22,7 +22,7 @@ use std::alloc::Global;
 use tars_model::List;
 
 /// A word, a name and `{`.
-#[tactic(auto, unfolding(crate::specs::Reading::heading_at))]
+#[tactic(auto, unfolding(crate::specs::ReadSteps::heading_at))]
 pub(super) fn heading(word: Keyword, tokens: &[Token]) -> Result<(Span, &[Token]), Halt<'_>>
     ensures { Returns (λ x. (x.0, x.1.now)) result (heading_at word tokens.now) }
 {
@@ -33,7 +33,7 @@ pub(super) fn heading(word: Keyword, tokens: &[Token]) -> Result<(Span, &[Token]
 }
 
 /// `struct ident { { member ; } }`
-#[tactic(auto, unfolding(crate::specs::Reading::struct_at))]
+#[tactic(auto, unfolding(crate::specs::ReadSteps::struct_at))]
 fn struct_decl(alloc: Global, tokens: &[Token]) -> Result<(DeclTree, &[Token]), Halt<'_>>
     ensures { Returns (λ x. (x.0, x.1.now)) result (struct_at nesting_limit tokens.now) }
 {
@@ -43,7 +43,7 @@ fn struct_decl(alloc: Global, tokens: &[Token]) -> Result<(DeclTree, &[Token]), 
 }
 
 /// `enum ident { [ item { , item } [ , ] ] }`
-#[tactic(auto, unfolding(crate::specs::Reading::enum_at))]
+#[tactic(auto, unfolding(crate::specs::ReadSteps::enum_at))]
 fn enum_decl(alloc: Global, tokens: &[Token]) -> Result<(DeclTree, &[Token]), Halt<'_>>
     ensures { Returns (λ x. (x.0, x.1.now)) result (enum_at tokens.now) }
 {
@@ -53,7 +53,7 @@ fn enum_decl(alloc: Global, tokens: &[Token]) -> Result<(DeclTree, &[Token]), Ha
 }
 
 /// `const type ident = literal`
-#[tactic(auto, unfolding(crate::specs::Reading::const_at))]
+#[tactic(auto, unfolding(crate::specs::ReadSteps::const_at))]
 fn const_decl(alloc: Global, tokens: &[Token]) -> Result<(DeclTree, &[Token]), Halt<'_>>
     ensures { Returns (λ x. (x.0, x.1.now)) result (const_at nesting_limit tokens.now) }
 {
@@ -64,7 +64,7 @@ fn const_decl(alloc: Global, tokens: &[Token]) -> Result<(DeclTree, &[Token]), H
 }
 
 /// `, ident`
-#[tactic(auto, unfolding(crate::specs::Reading::name_behind_at))]
+#[tactic(auto, unfolding(crate::specs::ReadSteps::name_behind_at))]
 fn name_behind(tokens: &[Token]) -> Result<(Span, &[Token]), Halt<'_>>
     ensures { Returns (λ x. (x.0, x.1.now)) result (name_behind_at tokens.now) }
 {
@@ -81,7 +81,7 @@ impl Item for Span {
 }
 
 /// `{ , ident } ]`
-#[tactic(auto, using(crate::proofs::Turns::name_turn), unfolding(crate::specs::Reading::names_at))]
+#[tactic(auto, using(crate::proofs::Parsing::Turns::name_turn), unfolding(crate::specs::ReadSteps::names_at))]
 fn names(alloc: Global, tokens: &[Token]) -> Result<(List<Span>, &[Token]), Halt<'_>>
     ensures { Returns (λ x. (x.0, x.1.now)) result (names_at tokens.now) }
 {
@@ -97,7 +97,7 @@ fn keyed(tokens: &[Token]) -> Result<(Span, &[Token]), Halt<'_>>
 }
 
 /// `key [ ident { , ident } ]`
-#[tactic(auto, unfolding(crate::specs::Reading::key_at))]
+#[tactic(auto, unfolding(crate::specs::ReadSteps::key_at))]
 fn key_decl(alloc: Global, tokens: &[Token]) -> Result<(DeclTree, &[Token]), Halt<'_>>
     ensures { Returns (λ x. (x.0, x.1.now)) result (key_at tokens.now) }
 {
@@ -108,7 +108,7 @@ fn key_decl(alloc: Global, tokens: &[Token]) -> Result<(DeclTree, &[Token]), Hal
 }
 
 /// `interface ident { { func ; } }`
-#[tactic(auto, unfolding(crate::specs::Reading::interface_at))]
+#[tactic(auto, unfolding(crate::specs::ReadSteps::interface_at))]
 fn interface_decl(alloc: Global, tokens: &[Token]) -> Result<(DeclTree, &[Token]), Halt<'_>>
     ensures { Returns (λ x. (x.0, x.1.now)) result (interface_at nesting_limit tokens.now) }
 {
@@ -118,7 +118,7 @@ fn interface_decl(alloc: Global, tokens: &[Token]) -> Result<(DeclTree, &[Token]
 }
 
 /// `const | key | interface`
-#[tactic(auto, unfolding(crate::specs::Reading::other_decl_at))]
+#[tactic(auto, unfolding(crate::specs::ReadSteps::other_decl_at))]
 fn other_decl(alloc: Global, tokens: &[Token]) -> Result<(DeclTree, &[Token]), Halt<'_>>
     ensures { Returns (λ x. (x.0, x.1.now)) result (other_decl_at nesting_limit tokens.now) }
 {
@@ -132,7 +132,7 @@ fn other_decl(alloc: Global, tokens: &[Token]) -> Result<(DeclTree, &[Token]), H
 }
 
 /// `struct | enum | const | key | interface`
-#[tactic(auto, unfolding(crate::specs::Reading::decl_at))]
+#[tactic(auto, unfolding(crate::specs::ReadSteps::decl_at))]
 fn decl(alloc: Global, tokens: &[Token]) -> Result<(DeclTree, &[Token]), Halt<'_>>
     ensures { Returns (λ x. (x.0, x.1.now)) result (decl_at nesting_limit tokens.now) }
 {
@@ -163,7 +163,7 @@ impl Item for DeclTree {
 }
 
 /// `{ decl ; } }`
-#[tactic(auto, using(crate::proofs::Turns::decl_turn), unfolding(crate::specs::Reading::decls_at))]
+#[tactic(auto, using(crate::proofs::Parsing::Turns::decl_turn), unfolding(crate::specs::ReadSteps::decls_at))]
 pub(super) fn decls(alloc: Global, tokens: &[Token]) -> Result<(List<DeclTree>, &[Token]), Halt<'_>>
     ensures { Returns (λ x. (x.0, x.1.now)) result (decls_at nesting_limit tokens.now) }
 {

@@ -1,5 +1,5 @@
 ghost use Rattle.std.specs.Prelude.{◌≡◌};
-ghost use Rattle.idl_parse.specs.Reading.{Returns, maybe_at, item_number_at, item_at, item_comma_at, items_at};
+ghost use Rattle.idl_parse.specs.ReadSteps.{Returns, maybe_at, item_number_at, item_at, item_comma_at, items_at};
 ghost use Rattle.idl_parse.specs.declared.kind.Kind.TheVariants.{Sign as sign_kind};
 ghost use Rattle.idl_parse.specs.declared.sign.Sign.TheVariants.{Equals as equals};
 
@@ -15,7 +15,7 @@ use std::alloc::Global;
 use tars_model::List;
 
 /// `= number`
-#[tactic(auto, unfolding(crate::specs::Reading::item_number_at))]
+#[tactic(auto, unfolding(crate::specs::ReadSteps::item_number_at))]
 fn item_number(tokens: &[Token]) -> Result<(Span, &[Token]), Halt<'_>>
     ensures { Returns (λ x. (x.0, x.1.now)) result (item_number_at tokens.now) }
 {
@@ -35,7 +35,7 @@ fn maybe_number(tokens: &[Token]) -> Result<(Option<Span>, &[Token]), Halt<'_>>
 }
 
 /// `ident [ = number ]`
-#[tactic(auto, unfolding(crate::specs::Reading::item_at))]
+#[tactic(auto, unfolding(crate::specs::ReadSteps::item_at))]
 fn item(tokens: &[Token]) -> Result<(EnumItem, &[Token]), Halt<'_>>
     ensures { Returns (λ x. (x.0, x.1.now)) result (item_at tokens.now) }
 {
@@ -45,7 +45,7 @@ fn item(tokens: &[Token]) -> Result<(EnumItem, &[Token]), Halt<'_>>
 }
 
 /// An item with the comma behind it, which may be left out before the `}`.
-#[tactic(auto, unfolding(crate::specs::Reading::item_comma_at))]
+#[tactic(auto, unfolding(crate::specs::ReadSteps::item_comma_at))]
 fn item_comma(tokens: &[Token]) -> Result<(EnumItem, &[Token]), Halt<'_>>
     ensures { Returns (λ x. (x.0, x.1.now)) result (item_comma_at tokens.now) }
 {
@@ -66,7 +66,7 @@ impl Item for EnumItem {
 }
 
 /// `[ item { , item } [ , ] ] }`
-#[tactic(auto, using(crate::proofs::ItemLaws::item_comma_shrinks), unfolding(crate::specs::Reading::items_at))]
+#[tactic(auto, using(crate::proofs::Parsing::ItemLaws::item_comma_shrinks), unfolding(crate::specs::ReadSteps::items_at))]
 pub(super) fn items(alloc: Global, tokens: &[Token]) -> Result<(List<EnumItem>, &[Token]), Halt<'_>>
     ensures { Returns (λ x. (x.0, x.1.now)) result (items_at tokens.now) }
 {

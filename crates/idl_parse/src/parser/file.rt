@@ -1,6 +1,6 @@
 ghost use Rattle.std.specs.Prelude.{◌≡◌};
 ghost use Rattle.idl_parse.specs.Grammar.{nesting_limit};
-ghost use Rattle.idl_parse.specs.Reading.{Returns, module_at, include_at, entry_at, file_at};
+ghost use Rattle.idl_parse.specs.ReadSteps.{Returns, module_at, include_at, entry_at, file_at};
 
 use super::decls::{decls, heading};
 use super::halt::Halt;
@@ -15,7 +15,7 @@ use std::alloc::Global;
 use tars_model::List;
 
 /// `module ident { { decl ; } } ;`
-#[tactic(auto, unfolding(crate::specs::Reading::module_at))]
+#[tactic(auto, unfolding(crate::specs::ReadSteps::module_at))]
 fn module_entry(alloc: Global, tokens: &[Token]) -> Result<(Entry, &[Token]), Halt<'_>>
     ensures { Returns (λ x. (x.0, x.1.now)) result (module_at nesting_limit tokens.now) }
 {
@@ -26,7 +26,7 @@ fn module_entry(alloc: Global, tokens: &[Token]) -> Result<(Entry, &[Token]), Ha
 }
 
 /// `#include text`
-#[tactic(auto, unfolding(crate::specs::Reading::include_at))]
+#[tactic(auto, unfolding(crate::specs::ReadSteps::include_at))]
 fn include_entry(tokens: &[Token]) -> Result<(Entry, &[Token]), Halt<'_>>
     ensures { Returns (λ x. (x.0, x.1.now)) result (include_at tokens.now) }
 {
@@ -36,7 +36,7 @@ fn include_entry(tokens: &[Token]) -> Result<(Entry, &[Token]), Halt<'_>>
 }
 
 /// `#include text | module`
-#[tactic(auto, unfolding(crate::specs::Reading::entry_at))]
+#[tactic(auto, unfolding(crate::specs::ReadSteps::entry_at))]
 fn entry(alloc: Global, tokens: &[Token]) -> Result<(Entry, &[Token]), Halt<'_>>
     ensures { Returns (λ x. (x.0, x.1.now)) result (entry_at nesting_limit tokens.now) }
 {

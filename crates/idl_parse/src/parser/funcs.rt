@@ -1,6 +1,6 @@
 ghost use Rattle.std.specs.Prelude.{◌≡◌};
 ghost use Rattle.idl_parse.specs.Grammar.{nesting_limit};
-ghost use Rattle.idl_parse.specs.Reading.{Returns, with_front, maybe_at, one_at, behind_at, param_at, param_behind_at, more_params_at, first_params_at, no_params_at, params_at, void_at, some_type_at, ret_at, func_at, ended_at, funcs_at};
+ghost use Rattle.idl_parse.specs.ReadSteps.{Returns, with_front, maybe_at, one_at, behind_at, param_at, param_behind_at, more_params_at, first_params_at, no_params_at, params_at, void_at, some_type_at, ret_at, func_at, ended_at, funcs_at};
 ghost use Rattle.idl_parse.specs.declared.sign.Sign.TheVariants.{OpenParen as open_paren};
 ghost use Rattle.idl_parse.specs.declared.kind.Kind.TheVariants.{Keyword as word_kind};
 
@@ -28,7 +28,7 @@ fn maybe_word(word: Keyword, tokens: &[Token]) -> Result<(Option<Token>, &[Token
 }
 
 /// `[ routekey ] [ out ] type ident`
-#[tactic(auto, unfolding(crate::specs::Reading::param_at))]
+#[tactic(auto, unfolding(crate::specs::ReadSteps::param_at))]
 fn param(alloc: Global, tokens: &[Token]) -> Result<(ParamTree, &[Token]), Halt<'_>>
     ensures { Returns (λ x. (x.0, x.1.now)) result (param_at nesting_limit tokens.now) }
 {
@@ -48,7 +48,7 @@ fn param(alloc: Global, tokens: &[Token]) -> Result<(ParamTree, &[Token]), Halt<
 }
 
 /// `, param`
-#[tactic(auto, unfolding(crate::specs::Reading::param_behind_at))]
+#[tactic(auto, unfolding(crate::specs::ReadSteps::param_behind_at))]
 fn param_behind(alloc: Global, tokens: &[Token]) -> Result<(ParamTree, &[Token]), Halt<'_>>
     ensures { Returns (λ x. (x.0, x.1.now)) result (param_behind_at nesting_limit tokens.now) }
 {
@@ -65,7 +65,7 @@ impl Item for ParamTree {
 }
 
 /// `param { , param } )`
-#[tactic(auto, using(crate::proofs::Turns::param_turn), unfolding(crate::specs::Reading::first_params_at, crate::specs::Reading::more_params_at))]
+#[tactic(auto, using(crate::proofs::Parsing::Turns::param_turn), unfolding(crate::specs::ReadSteps::first_params_at, crate::specs::ReadSteps::more_params_at))]
 fn first_params(alloc: Global, tokens: &[Token]) -> Result<(List<ParamTree>, &[Token]), Halt<'_>>
     ensures { Returns (λ x. (x.0, x.1.now)) result (first_params_at nesting_limit tokens.now) }
 {
@@ -75,7 +75,7 @@ fn first_params(alloc: Global, tokens: &[Token]) -> Result<(List<ParamTree>, &[T
     until_after(alloc, Sign::CloseParen, params, rest)
 }
 
-#[tactic(auto, unfolding(crate::specs::Reading::no_params_at))]
+#[tactic(auto, unfolding(crate::specs::ReadSteps::no_params_at))]
 fn no_params(alloc: Global, tokens: &[Token]) -> Result<(List<ParamTree>, &[Token]), Halt<'_>>
     ensures { Returns (λ x. (x.0, x.1.now)) result (no_params_at tokens.now) }
 {
@@ -84,7 +84,7 @@ fn no_params(alloc: Global, tokens: &[Token]) -> Result<(List<ParamTree>, &[Toke
 }
 
 /// `[ param { , param } ] )`
-#[tactic(auto, unfolding(crate::specs::Reading::params_at))]
+#[tactic(auto, unfolding(crate::specs::ReadSteps::params_at))]
 fn params(alloc: Global, tokens: &[Token]) -> Result<(List<ParamTree>, &[Token]), Halt<'_>>
     ensures { Returns (λ x. (x.0, x.1.now)) result (params_at nesting_limit tokens.now) }
 {
@@ -103,7 +103,7 @@ fn behind_paren(alloc: Global, tokens: &[Token]) -> Result<(List<ParamTree>, &[T
     params(alloc, rest)
 }
 
-#[tactic(auto, unfolding(crate::specs::Reading::void_at))]
+#[tactic(auto, unfolding(crate::specs::ReadSteps::void_at))]
 fn void(tokens: &[Token]) -> Result<(Option<TypeTree>, &[Token]), Halt<'_>>
     ensures { Returns (λ x. (x.0, x.1.now)) result (void_at tokens.now) }
 {
@@ -111,7 +111,7 @@ fn void(tokens: &[Token]) -> Result<(Option<TypeTree>, &[Token]), Halt<'_>>
     Ok((None, rest))
 }
 
-#[tactic(auto, unfolding(crate::specs::Reading::some_type_at))]
+#[tactic(auto, unfolding(crate::specs::ReadSteps::some_type_at))]
 fn some_type(alloc: Global, tokens: &[Token]) -> Result<(Option<TypeTree>, &[Token]), Halt<'_>>
     ensures { Returns (λ x. (x.0, x.1.now)) result (some_type_at nesting_limit tokens.now) }
 {
@@ -120,7 +120,7 @@ fn some_type(alloc: Global, tokens: &[Token]) -> Result<(Option<TypeTree>, &[Tok
 }
 
 /// `void | type`
-#[tactic(auto, unfolding(crate::specs::Reading::ret_at))]
+#[tactic(auto, unfolding(crate::specs::ReadSteps::ret_at))]
 fn ret(alloc: Global, tokens: &[Token]) -> Result<(Option<TypeTree>, &[Token]), Halt<'_>>
     ensures { Returns (λ x. (x.0, x.1.now)) result (ret_at nesting_limit tokens.now) }
 {
@@ -132,7 +132,7 @@ fn ret(alloc: Global, tokens: &[Token]) -> Result<(Option<TypeTree>, &[Token]), 
 }
 
 /// `( void | type ) ident ( [ param { , param } ] )`
-#[tactic(auto, unfolding(crate::specs::Reading::func_at))]
+#[tactic(auto, unfolding(crate::specs::ReadSteps::func_at))]
 fn func(alloc: Global, tokens: &[Token]) -> Result<(FuncTree, &[Token]), Halt<'_>>
     ensures { Returns (λ x. (x.0, x.1.now)) result (func_at nesting_limit tokens.now) }
 {
@@ -160,7 +160,7 @@ impl Item for FuncTree {
 }
 
 /// `{ func ; } }`
-#[tactic(auto, using(crate::proofs::Turns::func_turn), unfolding(crate::specs::Reading::funcs_at))]
+#[tactic(auto, using(crate::proofs::Parsing::Turns::func_turn), unfolding(crate::specs::ReadSteps::funcs_at))]
 pub(super) fn funcs(alloc: Global, tokens: &[Token]) -> Result<(List<FuncTree>, &[Token]), Halt<'_>>
     ensures { Returns (λ x. (x.0, x.1.now)) result (funcs_at nesting_limit tokens.now) }
 {

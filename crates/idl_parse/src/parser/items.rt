@@ -1,7 +1,7 @@
 //! Items one after the other, up to a closing sign.
 
 ghost use Rattle.std.specs.Prelude.{◌≡◌, List as Listed};
-ghost use Rattle.idl_parse.specs.Reading.{Read, Returns, Shrinks, until_at, with_front};
+ghost use Rattle.idl_parse.specs.ReadSteps.{Read, Returns, Shrinks, until_at, with_front};
 ghost use Rattle.idl_parse.specs.declared.token.Token.{Token as Found};
 
 use super::halt::Halt;
@@ -42,7 +42,7 @@ pub(super) fn until_after<T: Item>(
 }
 
 /// The items up to the closing sign, each of which takes a token.
-#[tactic(auto, using(crate::proofs::LoopSteps::nothing_before))]
+#[tactic(auto, using(crate::proofs::Parsing::LoopSteps::nothing_before))]
 pub(super) fn until<T: Item>(
     alloc: Global,
     close: Sign,

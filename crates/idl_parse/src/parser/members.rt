@@ -1,6 +1,6 @@
 ghost use Rattle.std.specs.Prelude.{◌≡◌};
 ghost use Rattle.idl_parse.specs.Grammar.{nesting_limit};
-ghost use Rattle.idl_parse.specs.Reading.{Returns, means_at, array_at, maybe_at, default_at, member_end_at, member_at, ended_at, members_at};
+ghost use Rattle.idl_parse.specs.ReadSteps.{Returns, means_at, array_at, maybe_at, default_at, member_end_at, member_at, ended_at, members_at};
 ghost use Rattle.idl_parse.specs.Words.{requirement_of};
 ghost use Rattle.idl_parse.specs.declared.kind.Kind.TheVariants.{Sign as sign_kind};
 ghost use Rattle.idl_parse.specs.declared.sign.Sign.TheVariants.{OpenBracket as open_bracket, Equals as equals};
@@ -31,7 +31,7 @@ fn requirement_of(kind: Kind) -> Option<bool>
 }
 
 /// `require` or `optional`
-#[tactic(auto, unfolding(crate::specs::Reading::means_at))]
+#[tactic(auto, unfolding(crate::specs::ReadSteps::means_at))]
 fn requirement(tokens: &[Token]) -> Result<((Token, bool), &[Token]), Halt<'_>>
     ensures { Returns (λ x. (x.0, x.1.now)) result (means_at requirement_of tokens.now) }
 {
@@ -71,7 +71,7 @@ fn maybe_default(tokens: &[Token]) -> Result<(Option<Literal>, &[Token]), Halt<'
 }
 
 /// `[ array ] [ = literal ]`
-#[tactic(auto, unfolding(crate::specs::Reading::member_end_at))]
+#[tactic(auto, unfolding(crate::specs::ReadSteps::member_end_at))]
 fn member_end(tokens: &[Token]) -> Result<((Option<ArrayLen>, Option<Literal>), &[Token]), Halt<'_>>
     ensures { Returns (λ x. (x.0, x.1.now)) result (member_end_at tokens.now) }
 {
@@ -80,7 +80,7 @@ fn member_end(tokens: &[Token]) -> Result<((Option<ArrayLen>, Option<Literal>), 
     Ok(((array, default), rest))
 }
 
-#[tactic(auto, unfolding(crate::specs::Reading::member_at))]
+#[tactic(auto, unfolding(crate::specs::ReadSteps::member_at))]
 fn member(alloc: Global, tokens: &[Token]) -> Result<(MemberTree, &[Token]), Halt<'_>>
     ensures { Returns (λ x. (x.0, x.1.now)) result (member_at nesting_limit tokens.now) }
 {
@@ -118,7 +118,7 @@ impl Item for MemberTree {
 }
 
 /// `{ member ; } }`
-#[tactic(auto, using(crate::proofs::Turns::member_turn), unfolding(crate::specs::Reading::members_at))]
+#[tactic(auto, using(crate::proofs::Parsing::Turns::member_turn), unfolding(crate::specs::ReadSteps::members_at))]
 pub(super) fn members(
     alloc: Global,
     tokens: &[Token],

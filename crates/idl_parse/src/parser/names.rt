@@ -1,5 +1,5 @@
 ghost use Rattle.std.specs.Prelude.{◌≡◌};
-ghost use Rattle.idl_parse.specs.Reading.{Returns, second_at, scoped_at, maybe_at, array_at, named_literal_at, word_literal_at, literal_at, default_at};
+ghost use Rattle.idl_parse.specs.ReadSteps.{Returns, second_at, scoped_at, maybe_at, array_at, named_literal_at, word_literal_at, literal_at, default_at};
 ghost use Rattle.idl_parse.specs.Words.{literal_of};
 ghost use Rattle.idl_parse.specs.declared.kind.Kind.TheVariants.{Sign as sign_kind};
 ghost use Rattle.idl_parse.specs.declared.sign.Sign.TheVariants.{PathSep as path_sep};
@@ -15,7 +15,7 @@ use crate::token::Token;
 use crate::tree::{ArrayLen, Literal, LiteralWord, ScopedName};
 
 /// `:: ident`
-#[tactic(auto, unfolding(crate::specs::Reading::second_at))]
+#[tactic(auto, unfolding(crate::specs::ReadSteps::second_at))]
 fn second(tokens: &[Token]) -> Result<(Span, &[Token]), Halt<'_>>
     ensures { Returns (λ x. (x.0, x.1.now)) result (second_at tokens.now) }
 {
@@ -35,7 +35,7 @@ fn maybe_second(tokens: &[Token]) -> Result<(Option<Span>, &[Token]), Halt<'_>>
 }
 
 /// `ident [ :: ident ]`
-#[tactic(auto, unfolding(crate::specs::Reading::scoped_at))]
+#[tactic(auto, unfolding(crate::specs::ReadSteps::scoped_at))]
 pub(super) fn scoped(tokens: &[Token]) -> Result<(ScopedName, &[Token]), Halt<'_>>
     ensures { Returns (λ x. (x.0, x.1.now)) result (scoped_at tokens.now) }
 {
@@ -45,7 +45,7 @@ pub(super) fn scoped(tokens: &[Token]) -> Result<(ScopedName, &[Token]), Halt<'_
 }
 
 /// `[ number ]`
-#[tactic(auto, unfolding(crate::specs::Reading::array_at))]
+#[tactic(auto, unfolding(crate::specs::ReadSteps::array_at))]
 pub(super) fn array(tokens: &[Token]) -> Result<(ArrayLen, &[Token]), Halt<'_>>
     ensures { Returns (λ x. (x.0, x.1.now)) result (array_at tokens.now) }
 {
@@ -61,7 +61,7 @@ pub(super) fn array(tokens: &[Token]) -> Result<(ArrayLen, &[Token]), Halt<'_>>
     ))
 }
 
-#[tactic(auto, unfolding(crate::specs::Reading::named_literal_at))]
+#[tactic(auto, unfolding(crate::specs::ReadSteps::named_literal_at))]
 fn named_literal(tokens: &[Token]) -> Result<(Literal, &[Token]), Halt<'_>>
     ensures { Returns (λ x. (x.0, x.1.now)) result (named_literal_at tokens.now) }
 {
@@ -83,7 +83,7 @@ fn literal_of(kind: Kind) -> Option<LiteralWord>
     }
 }
 
-#[tactic(auto, unfolding(crate::specs::Reading::word_literal_at, crate::specs::Reading::means_at))]
+#[tactic(auto, unfolding(crate::specs::ReadSteps::word_literal_at, crate::specs::ReadSteps::means_at))]
 fn word_literal(tokens: &[Token]) -> Result<(Literal, &[Token]), Halt<'_>>
     ensures { Returns (λ x. (x.0, x.1.now)) result (word_literal_at tokens.now) }
 {
@@ -106,7 +106,7 @@ fn word_literal(tokens: &[Token]) -> Result<(Literal, &[Token]), Halt<'_>>
     Ok((Literal::Word { word, place }, rest))
 }
 
-#[tactic(auto, unfolding(crate::specs::Reading::literal_at))]
+#[tactic(auto, unfolding(crate::specs::ReadSteps::literal_at))]
 pub(super) fn literal(tokens: &[Token]) -> Result<(Literal, &[Token]), Halt<'_>>
     ensures { Returns (λ x. (x.0, x.1.now)) result (literal_at tokens.now) }
 {
@@ -118,7 +118,7 @@ pub(super) fn literal(tokens: &[Token]) -> Result<(Literal, &[Token]), Halt<'_>>
 }
 
 /// `= literal`
-#[tactic(auto, unfolding(crate::specs::Reading::default_at))]
+#[tactic(auto, unfolding(crate::specs::ReadSteps::default_at))]
 pub(super) fn default(tokens: &[Token]) -> Result<(Literal, &[Token]), Halt<'_>>
     ensures { Returns (λ x. (x.0, x.1.now)) result (default_at tokens.now) }
 {

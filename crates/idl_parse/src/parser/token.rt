@@ -1,6 +1,6 @@
 ghost use Rattle.std.specs.Prelude.{◌≡◌};
-ghost use Rattle.idl_parse.specs.Kinds.{same_kind, begins};
-ghost use Rattle.idl_parse.specs.Reading.{Returns, one_at, place_at};
+ghost use Rattle.idl_parse.specs.KindSteps.{same_kind, begins};
+ghost use Rattle.idl_parse.specs.ReadSteps.{Returns, one_at, place_at};
 
 use super::halt::Halt;
 use crate::kind::Kind;
@@ -16,7 +16,7 @@ fn same_kind(kind: Kind, wanted: Kind) -> bool
 }
 
 /// Whether the first token is of the kind.
-#[tactic(auto, unfolding(crate::specs::Kinds::begins))]
+#[tactic(auto, unfolding(crate::specs::KindSteps::begins))]
 pub(super) fn begins(kind: Kind, tokens: &[Token]) -> bool
     ensures { result ≡ begins kind tokens.now }
 {
@@ -27,7 +27,7 @@ pub(super) fn begins(kind: Kind, tokens: &[Token]) -> bool
 }
 
 /// A token of the kind.
-#[tactic(auto, unfolding(crate::specs::Reading::one_at))]
+#[tactic(auto, unfolding(crate::specs::ReadSteps::one_at))]
 pub(super) fn one(kind: Kind, tokens: &[Token]) -> Result<(Token, &[Token]), Halt<'_>>
     ensures { Returns (λ x. (x.0, x.1.now)) result (one_at kind tokens.now) }
 {
@@ -41,7 +41,7 @@ pub(super) fn one(kind: Kind, tokens: &[Token]) -> Result<(Token, &[Token]), Hal
 }
 
 /// The place of a token of the kind.
-#[tactic(auto, unfolding(crate::specs::Reading::place_at))]
+#[tactic(auto, unfolding(crate::specs::ReadSteps::place_at))]
 pub(super) fn place(kind: Kind, tokens: &[Token]) -> Result<(Span, &[Token]), Halt<'_>>
     ensures { Returns (λ x. (x.0, x.1.now)) result (place_at kind tokens.now) }
 {

@@ -1,6 +1,6 @@
 ghost use Rattle.std.specs.Prelude.{◌≡◌, suc};
 ghost use Rattle.idl_parse.specs.Grammar.{nesting_limit};
-ghost use Rattle.idl_parse.specs.Reading.{Returns, basic_at, unsigned_at, named_at, is_type_start, no_room_at, flat_at, behind_at, vector_at, map_at, type_with, type_at, typed_at};
+ghost use Rattle.idl_parse.specs.ReadSteps.{Returns, basic_at, unsigned_at, named_at, is_type_start, no_room_at, flat_at, behind_at, vector_at, map_at, type_with, type_at, typed_at};
 ghost use Rattle.idl_parse.specs.Words.{basic_of, unsigned_of};
 
 use super::halt::Halt;
@@ -47,7 +47,7 @@ fn unsigned_of(kind: Kind) -> Option<BasicType>
     }
 }
 
-#[tactic(auto, unfolding(crate::specs::Reading::basic_at, crate::specs::Reading::means_at))]
+#[tactic(auto, unfolding(crate::specs::ReadSteps::basic_at, crate::specs::ReadSteps::means_at))]
 fn basic(tokens: &[Token]) -> Result<(TypeTree, &[Token]), Halt<'_>>
     ensures { Returns (λ x. (x.0, x.1.now)) result (basic_at tokens.now) }
 {
@@ -72,7 +72,7 @@ fn basic(tokens: &[Token]) -> Result<(TypeTree, &[Token]), Halt<'_>>
     ))
 }
 
-#[tactic(auto, unfolding(crate::specs::Reading::unsigned_at, crate::specs::Reading::means_at))]
+#[tactic(auto, unfolding(crate::specs::ReadSteps::unsigned_at, crate::specs::ReadSteps::means_at))]
 fn unsigned(tokens: &[Token]) -> Result<(TypeTree, &[Token]), Halt<'_>>
     ensures { Returns (λ x. (x.0, x.1.now)) result (unsigned_at tokens.now) }
 {
@@ -98,7 +98,7 @@ fn unsigned(tokens: &[Token]) -> Result<(TypeTree, &[Token]), Halt<'_>>
     ))
 }
 
-#[tactic(auto, unfolding(crate::specs::Reading::named_at))]
+#[tactic(auto, unfolding(crate::specs::ReadSteps::named_at))]
 fn named(tokens: &[Token]) -> Result<(TypeTree, &[Token]), Halt<'_>>
     ensures { Returns (λ x. (x.0, x.1.now)) result (named_at tokens.now) }
 {
@@ -107,7 +107,7 @@ fn named(tokens: &[Token]) -> Result<(TypeTree, &[Token]), Halt<'_>>
 }
 
 /// A type that is no vector or map.
-#[tactic(auto, unfolding(crate::specs::Reading::flat_at))]
+#[tactic(auto, unfolding(crate::specs::ReadSteps::flat_at))]
 fn flat(tokens: &[Token]) -> Result<(TypeTree, &[Token]), Halt<'_>>
     ensures { Returns (λ x. (x.0, x.1.now)) result (flat_at tokens.now) }
 {
@@ -144,7 +144,7 @@ fn is_type_start(kind: Kind) -> bool
 }
 
 /// No type may stand here any more: tells whether one begins.
-#[tactic(auto, unfolding(crate::specs::Reading::no_room_at))]
+#[tactic(auto, unfolding(crate::specs::ReadSteps::no_room_at))]
 fn no_room(tokens: &[Token]) -> Result<(TypeTree, &[Token]), Halt<'_>>
     ensures { Returns (λ x. (x.0, x.1.now)) result (no_room_at tokens.now) }
 {
@@ -176,7 +176,7 @@ fn type_behind(
 
 /// `vector < type >`
 #[cycle(types)]
-#[tactic(auto, unfolding(crate::specs::Reading::vector_at))]
+#[tactic(auto, unfolding(crate::specs::ReadSteps::vector_at))]
 fn vector(alloc: Global, room: u8, tokens: &[Token]) -> Result<(TypeTree, &[Token]), Halt<'_>>
     ensures { Returns (λ x. (x.0, x.1.now)) result (vector_at (type_at room) tokens.now) }
 {
@@ -195,7 +195,7 @@ fn vector(alloc: Global, room: u8, tokens: &[Token]) -> Result<(TypeTree, &[Toke
 
 /// `map < type , type >`
 #[cycle(types)]
-#[tactic(auto, unfolding(crate::specs::Reading::map_at))]
+#[tactic(auto, unfolding(crate::specs::ReadSteps::map_at))]
 fn map(alloc: Global, room: u8, tokens: &[Token]) -> Result<(TypeTree, &[Token]), Halt<'_>>
     ensures { Returns (λ x. (x.0, x.1.now)) result (map_at (type_at room) tokens.now) }
 {
@@ -217,7 +217,7 @@ fn map(alloc: Global, room: u8, tokens: &[Token]) -> Result<(TypeTree, &[Token])
 
 /// A type with room for so many others inside it.
 #[cycle(types)]
-#[tactic(auto, unfolding(crate::specs::Reading::type_with))]
+#[tactic(auto, unfolding(crate::specs::ReadSteps::type_with))]
 fn type_around(alloc: Global, room: u8, tokens: &[Token]) -> Result<(TypeTree, &[Token]), Halt<'_>>
     ensures { Returns (λ x. (x.0, x.1.now)) result (type_with (type_at room) tokens.now) }
 {
@@ -246,7 +246,7 @@ pub(super) fn type_tree(
 }
 
 /// `type ident`
-#[tactic(auto, unfolding(crate::specs::Reading::typed_at))]
+#[tactic(auto, unfolding(crate::specs::ReadSteps::typed_at))]
 pub(super) fn typed(alloc: Global, tokens: &[Token]) -> Result<(TypedName, &[Token]), Halt<'_>>
     ensures { Returns (λ x. (x.0, x.1.now)) result (typed_at nesting_limit tokens.now) }
 {

@@ -1,7 +1,7 @@
 use Rattle.std.proofs.Common.{sym, ◌∙◌, length}
-use Rattle.idl_parse.proofs.FileLaws.{file_sound, file_complete, entries_of}
-use Rattle.idl_parse.proofs.Nestings.{file_places}
-use Rattle.idl_parse.proofs.ParseSteps.{no_file, true_fault, refused_fault}
+use Rattle.idl_parse.proofs.Parsing.FileLaws.{file_sound, file_complete, entries_of}
+use Rattle.idl_parse.proofs.Trees.NestingLaws.{file_places}
+use Rattle.idl_parse.proofs.Parsing.ParseSteps.{no_file, true_fault, refused_fault}
 use Rattle.idl_parse.proofs.ast.parse.Goals as goal
 
 pub returns-in-Err-clause-only : goal.returns-in-Err-clause-only

@@ -1,4 +1,4 @@
-use Rattle.idl_parse.specs.Lexing.{after_close}
+use Rattle.idl_parse.specs.LexSteps.{after_close}
 use Rattle.std.proofs.Common.{◌≡◌, length}
 use Rattle.idl_parse.proofs.gaps.after_close.Given as goal
 

@@ -1,4 +1,4 @@
-use Rattle.idl_parse.proofs.IncludeLaws.{spell_next}
+use Rattle.idl_parse.proofs.Trees.IncludeLaws.{spell_next}
 use Rattle.idl_parse.proofs.includes.include_names.Goals as goal
 
 pub loop-entry-preserved : goal.loop-entry-preserved

@@ -1,5 +1,5 @@
 use Rattle.std.proofs.Common.{◌≡◌, length}
-use Rattle.idl_parse.specs.Lexing.{keyword_among}
+use Rattle.idl_parse.specs.LexSteps.{keyword_among}
 use Rattle.idl_parse.proofs.keyword.keyword_among.Given as goal
 
 -- the keywords that are left have the same one

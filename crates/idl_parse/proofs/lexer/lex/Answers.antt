@@ -7,10 +7,10 @@ use Rattle.idl_parse.specs.declared.kind.Kind.{Kind}
 use Rattle.std.proofs.Common.{Option}
 use Rattle.idl_parse.specs.Tokens.{ArePieces, IsPiece, Tokens, IsLexFault}
 use Rattle.idl_parse.specs.Tokens.ArePieces.{none}
-use Rattle.idl_parse.proofs.PieceLaws.{piece_shorter}
-use Rattle.idl_parse.proofs.ListLaws.{pieces_within, gap_last, token_last}
-use Rattle.idl_parse.proofs.LexFaultLaws.{fault_within}
-use Rattle.idl_parse.proofs.TextOutcomes.{one_tokens, not_both, one_lex_fault}
+use Rattle.idl_parse.proofs.Lexing.PieceLaws.{piece_shorter}
+use Rattle.idl_parse.proofs.Lexing.ListLaws.{pieces_within, gap_last, token_last}
+use Rattle.idl_parse.proofs.Lexing.LexFaultLaws.{fault_within}
+use Rattle.idl_parse.proofs.Lexing.TextOutcomes.{one_tokens, not_both, one_lex_fault}
 use Rattle.idl_parse.proofs.lexer.lex.Goals as goal
 
 pub pieces-init : goal.pieces-init

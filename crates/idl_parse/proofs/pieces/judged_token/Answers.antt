@@ -1,6 +1,6 @@
 use Rattle.std.proofs.Common.{sym, ◌∙◌}
-use Rattle.idl_parse.specs.Lexing.{front_of}
-use Rattle.idl_parse.proofs.PieceLaws.{found_piece, found_bad, none_bad}
+use Rattle.idl_parse.specs.LexSteps.{front_of}
+use Rattle.idl_parse.proofs.Lexing.PieceLaws.{found_piece, found_bad, none_bad}
 use Rattle.idl_parse.proofs.pieces.judged_token.Goals as goal
 
 pub returns-in-Some-clause-token : goal.returns-in-Some-clause-token

@@ -1,5 +1,5 @@
 use Rattle.std.proofs.Common.{rules}
-use Rattle.idl_parse.proofs.PieceLaws.{comment_bad, text_piece}
+use Rattle.idl_parse.proofs.Lexing.PieceLaws.{comment_bad, text_piece}
 use Rattle.idl_parse.proofs.pieces.token_piece.Goals as goal
 
 pub returns-in-47-clause-fault : goal.returns-in-47-clause-fault

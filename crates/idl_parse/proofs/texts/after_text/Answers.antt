@@ -2,7 +2,7 @@ use Rattle.std.proofs.Common.{ℕ, [], ◌∷◌, ◌++◌, List, length, sym, a
 use Rattle.idl_parse.specs.Texts.{UnitsSpell}
 use Rattle.idl_parse.specs.Texts.UnitsSpell.{none}
 use Rattle.idl_parse.specs.Tokens.IsFault.{bad_escape, open_text}
-use Rattle.idl_parse.proofs.TextLaws.{unit_is, quote_is, cut_is, spoilt_is, units_last, unit_shorter, quote_front}
+use Rattle.idl_parse.proofs.Lexing.TextLaws.{unit_is, quote_is, cut_is, spoilt_is, units_last, unit_shorter, quote_front}
 use Rattle.idl_parse.proofs.texts.after_text.Goals as goal
 
 pub behind_first-left-requires : goal.behind_first-left-requires

@@ -1,4 +1,4 @@
-use Rattle.idl_parse.proofs.Nestings.{file_places}
+use Rattle.idl_parse.proofs.Trees.NestingLaws.{file_places}
 use Rattle.idl_parse.proofs.ast.Ast.entries.Goals as goal
 
 pub returns-clause-places : goal.returns-clause-places

@@ -1,5 +1,5 @@
 use Rattle.std.proofs.Common.{sym}
-use Rattle.idl_parse.proofs.IncludeLaws.{spelled_at, none_at}
+use Rattle.idl_parse.proofs.Trees.IncludeLaws.{spelled_at, none_at}
 use Rattle.idl_parse.proofs.ast.Ast.include.Goals as goal
 
 pub returns-in_err-name : goal.returns-in_err-name

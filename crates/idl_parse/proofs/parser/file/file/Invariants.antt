@@ -1,6 +1,6 @@
 use Rattle.std.proofs.Common.{◌≡◌, length}
-use Rattle.idl_parse.specs.Reading.{file_at}
-use Rattle.idl_parse.proofs.FileSteps.{with_entries}
+use Rattle.idl_parse.specs.ReadSteps.{file_at}
+use Rattle.idl_parse.proofs.Parsing.FileSteps.{with_entries}
 use Rattle.idl_parse.proofs.parser.file.file.Given as goal
 
 abbrev pub invariant-loop-rest : goal.invariant-loop-rest

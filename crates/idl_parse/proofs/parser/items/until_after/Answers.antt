@@ -1,9 +1,9 @@
 use Rattle.std.proofs.Common.{◌≡◌, true, false, rules}
 use Rattle.std.proofs.lemmas.Result.{err_from_is_err_and}
-use Rattle.idl_parse.specs.Kinds.{begins}
-use Rattle.idl_parse.specs.Reading.{with_front, until_at}
+use Rattle.idl_parse.specs.KindSteps.{begins}
+use Rattle.idl_parse.specs.ReadSteps.{with_front, until_at}
 use Rattle.idl_parse.specs.declared.kind.Kind.TheVariants.{Sign}
-use Rattle.idl_parse.proofs.LoopSteps.{loop_goes_on, loop_fails, loop_ends, loop_end_fails}
+use Rattle.idl_parse.proofs.Parsing.LoopSteps.{loop_goes_on, loop_fails, loop_ends, loop_end_fails}
 use Rattle.idl_parse.proofs.parser.items.until_after.Goals as goal
 
 pub returns-in_err-item : goal.returns-in_err-item

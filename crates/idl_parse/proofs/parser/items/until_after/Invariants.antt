@@ -1,5 +1,5 @@
 use Rattle.std.proofs.Common.{◌≡◌, length}
-use Rattle.idl_parse.specs.Reading.{with_front, until_at}
+use Rattle.idl_parse.specs.ReadSteps.{with_front, until_at}
 use Rattle.idl_parse.proofs.parser.items.until_after.Given as goal
 
 abbrev pub invariant-items : goal.invariant-items

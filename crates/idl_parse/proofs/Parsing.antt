@@ -1,0 +1,24 @@
+-- The parser: readers against the grammar, and where they stop.
+pub mod Choice
+pub mod Combine
+pub mod FaultLaws
+pub mod FileLaws
+pub mod FileSteps
+pub mod Heads
+pub mod InOrder
+pub mod ItemLaws
+pub mod KindLaws
+pub mod Leaves
+pub mod Literals
+pub mod LoopSteps
+pub mod Loops
+pub mod OneFault
+pub mod ParseSteps
+pub mod Productions
+pub mod Readers
+pub mod Rearranged
+pub mod Regroup
+pub mod Rooms
+pub mod Turns
+pub mod TypeLaws
+pub mod Until

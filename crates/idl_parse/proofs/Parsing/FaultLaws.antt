@@ -1,0 +1,236 @@
+-- Where reading stops is the fault that the tokens have.
+use Rattle.std.proofs.Common.{◌≡◌, ℕ, zero, suc, ◌+◌, ◌-◌, ◌<◌, ◌≤◌, Result, Ok, Err, List, [], ◌∷◌, ◌++◌, length, take, drop, refl, sym, ap, ◌∙◌, arith, inl, inr, append_assoc, subst, length-append}
+use Rattle.std.proofs.lemmas.List.{append-nil}
+use Rattle.std.proofs.Math.Seq.{take-append_seam, drop-append_seam, take-append-add}
+use Rattle.longest_front.specs.Fronts.{Begins}
+use Rattle.idl_parse.specs.Depth.{opened, Shallow}
+use Rattle.idl_parse.specs.Faults.{AnyFile, UnexpectedAt, TooDeepAt, StopsAt}
+use Rattle.idl_parse.specs.Grammar.{IsFile}
+use Rattle.idl_parse.specs.ReadSteps.{Stop, ◌>>=◌, entry_at, file_at}
+use Rattle.idl_parse.specs.declared.parse_fault.ParseWhy.{ParseWhy}
+use Rattle.idl_parse.specs.declared.parse_fault.ParseWhy.TheVariants.{Unexpected, TooDeep}
+use Rattle.idl_parse.specs.declared.token.Token.{Token}
+use Rattle.idl_parse.specs.declared.tree.module.Entry.{Entry}
+use Rattle.idl_parse.specs.declared.keyword.Keyword.TheVariants as words
+use Rattle.idl_parse.specs.declared.kind.Kind.TheVariants as kinds
+use Rattle.idl_parse.proofs.Parsing.Until.{item_shape}
+use Rattle.idl_parse.proofs.Parsing.FileLaws.{behind_entry, entry_shrinks, file_turn, file_nothing, file_goes_on, file_ends, file_halts, file_sound, file_complete, nothing_follows}
+use Rattle.idl_parse.proofs.Parsing.Heads.{bind_ok, bind_err, opened_append, shallow_append}
+use Rattle.idl_parse.proofs.Parsing.Productions.{entry}
+use Rattle.idl_parse.proofs.Parsing.Readers.{halted, too_deep, Kept}
+
+record FileStays (n : ℕ) (ts left : List Token) : Type 0 where
+  front : List Token
+  whole : ts ≡ front ++ left
+  more : List Token
+  value : List Entry
+  fills : (m : ℕ) → n < m → file_at m (front ++ more) ≡ Ok value
+  stuck : (t : Token) (l : List Token) → left ≡ t ∷ l → (m : ℕ) → n ≤ m → (others : List Token) → file_at m (front ++ (t ∷ others)) ≡ halted (t ∷ others)
+  shallow : Shallow n 0 front
+
+record FileDeep (n : ℕ) (ts left : List Token) : Type 0 where
+  front : List Token
+  next : Token
+  others : List Token
+  whole : ts ≡ front ++ left
+  is : left ≡ next ∷ others
+  more : List Token
+  value : List Entry
+  fills : (m : ℕ) → suc n < m → file_at m (front ++ (next ∷ more)) ≡ Ok value
+  shallow : Shallow n 0 front
+  open_behind : opened 0 front ≡ n
+
+-- a reader at a room that is not nothing
+above : (n m : ℕ) → suc n ≤ m → (p : ℕ) × (m ≡ suc p)
+above n zero le = absurd (omega arith)
+above n (suc m) le = (m, refl)
+
+file_on : (n m : ℕ) (ts : List Token) (x : Entry) (mid : List Token) (r : Result (List Entry) Stop) → suc n ≤ m → entry_at m ts ≡ Ok (x, mid) → (file_at m mid >>= λ others. Ok (x ∷ others)) ≡ r → file_at m ts ≡ r
+file_on n zero ts x mid r le e f = absurd (omega arith)
+file_on n (suc m) ts x mid r le e f = file_goes_on m ts x mid r e f
+
+file_end : (n m : ℕ) (ts : List Token) (x : Entry) → suc n ≤ m → entry_at m ts ≡ Ok (x, []) → file_at m ts ≡ Ok (x ∷ [])
+file_end n zero ts x le e = absurd (omega arith)
+file_end n (suc m) ts x le e = file_ends m ts x e
+
+file_halt : (n m : ℕ) (front : List Token) (t : Token) (others : List Token) (s : Stop) → suc n ≤ m → entry_at m (front ++ (t ∷ others)) ≡ Err s → file_at m (front ++ (t ∷ others)) ≡ Err s
+file_halt n zero front t others s le e = absurd (omega arith)
+file_halt n (suc m) front t others s le e = file_halts m front t others s e
+
+join : (a b mid rest ts : List Token) → ts ≡ a ++ mid → mid ≡ b ++ rest → ts ≡ (a ++ b) ++ rest
+join a b mid rest ts is is' = is ∙ ap (λ m. a ++ m) is' ∙ sym (append_assoc a b rest)
+
+stays_first : (n : ℕ) (ts left : List Token) → entry_at (suc n) ts ≡ halted left → FileStays (suc n) ts left
+stays_first n ts left e =
+    let h = (entry (suc (length ts)) n).stays ts left (omega arith) e in
+    record {
+      front = h.front;
+      whole = h.whole;
+      more = h.more;
+      value = h.value ∷ [];
+      fills = λ m lt. file_end n m (h.front ++ h.more) h.value (omega arith) (ap (λ z. entry_at m (h.front ++ z)) (sym (append-nil h.more)) ∙ h.fills m lt [] (nothing_follows []));
+      stuck = λ t l is m le others. file_halt n m h.front t others (record { left = t ∷ others; why = Unexpected }) le (h.stuck t l is m le others);
+      shallow = h.shallow;
+    }
+
+stays_second : (n : ℕ) (ts left : List Token) (x : Entry) (mid : List Token) → entry_at (suc n) ts ≡ Ok (x, mid) → FileStays (suc n) mid left → FileStays (suc n) ts left
+stays_second n ts left x mid e j =
+    let h = (entry (suc (length ts)) n).keeps ts x mid (omega arith) e in
+    record {
+      front = h.front ++ j.front;
+      whole = join h.front j.front mid left ts h.whole j.whole;
+      more = j.more;
+      value = x ∷ j.value;
+      fills = λ m lt.
+          rw (append_assoc h.front j.front j.more)
+          (file_on n m (h.front ++ (j.front ++ j.more)) x (j.front ++ j.more) (Ok (x ∷ j.value)) (omega arith)
+          (h.again m (omega arith) (j.front ++ j.more) (λ st. absurd (nothing_follows (j.front ++ j.more) st)))
+          (rw (j.fills m lt) refl));
+      stuck = λ t l is m le others.
+          rw (append_assoc h.front j.front (t ∷ others))
+          (file_on n m (h.front ++ (j.front ++ (t ∷ others))) x (j.front ++ (t ∷ others)) (halted (t ∷ others)) le
+          (h.again m le (j.front ++ (t ∷ others)) (λ st. absurd (nothing_follows (j.front ++ (t ∷ others)) st)))
+          (rw (j.stuck t l is m le others) refl));
+      shallow = shallow_append (suc n) 0 h.front j.front h.shallow (rw h.open_behind j.shallow);
+    }
+
+abbrev ok_entries : List Entry → Result (List Entry) Stop
+ok_entries es = Ok es
+
+abbrev failed : Stop → Result (List Entry) Stop
+failed s = Err s
+
+never : (es : List Entry) (s : Stop) → ok_entries es ≡ failed s → ⊥
+never es s e = cc
+
+failed_first : (r : Result (List Entry) Stop) (x : Entry) (s : Stop) → (r >>= λ others. ok_entries (x ∷ others)) ≡ Err s → r ≡ Err s
+failed_first (Ok es) x s e = absurd (never (x ∷ es) s e)
+failed_first (Err t) x s e = e
+
+stays_within : (k n : ℕ) (ts left : List Token) → length ts < k → file_at (suc n) ts ≡ halted left → FileStays (suc n) ts left
+stays_within zero n ts left lt e = absurd (omega arith)
+stays_within (suc k) n [] left lt e = absurd (never [] (record { left = left; why = Unexpected }) (sym (file_nothing (suc n)) ∙ e))
+stays_within (suc k) n (t ∷ ts) left lt e =
+    elim (bind_err (entry_at (suc n) (t ∷ ts)) (behind_entry (file_at (suc n))) (record { left = left; why = Unexpected }) (sym (file_turn n t ts) ∙ e)) [
+      | inl f ↦ stays_first n (t ∷ ts) left f
+      | inr p ↦
+          let less : length p.0.1 < length (t ∷ ts) = entry_shrinks n (t ∷ ts) p.0.0 p.0.1 p.1 in
+          stays_second n (t ∷ ts) left p.0.0 p.0.1 p.1 (stays_within k n p.0.1 left (omega arith) (failed_first (file_at (suc n) p.0.1) p.0.0 (record { left = left; why = Unexpected }) p.2))
+    ]
+
+deep_first : (n : ℕ) (ts left : List Token) → entry_at (suc n) ts ≡ too_deep left → FileDeep (suc n) ts left
+deep_first n ts left e =
+    let h = (entry (suc (length ts)) n).deep ts left (omega arith) e in
+    record {
+      front = h.front;
+      next = h.next;
+      others = h.others;
+      whole = h.whole;
+      is = h.is;
+      more = h.more;
+      value = h.value ∷ [];
+      fills = λ m lt. file_end n m (h.front ++ (h.next ∷ h.more)) h.value (omega arith) (ap (λ z. entry_at m (h.front ++ (h.next ∷ z))) (sym (append-nil h.more)) ∙ h.fills m lt [] (nothing_follows []));
+      shallow = h.shallow;
+      open_behind = h.open_behind;
+    }
+
+deep_second : (n : ℕ) (ts left : List Token) (x : Entry) (mid : List Token) → entry_at (suc n) ts ≡ Ok (x, mid) → FileDeep (suc n) mid left → FileDeep (suc n) ts left
+deep_second n ts left x mid e j =
+    let h = (entry (suc (length ts)) n).keeps ts x mid (omega arith) e in
+    record {
+      front = h.front ++ j.front;
+      next = j.next;
+      others = j.others;
+      whole = join h.front j.front mid left ts h.whole j.whole;
+      is = j.is;
+      more = j.more;
+      value = x ∷ j.value;
+      fills = λ m lt.
+          rw (append_assoc h.front j.front (j.next ∷ j.more))
+          (file_on n m (h.front ++ (j.front ++ (j.next ∷ j.more))) x (j.front ++ (j.next ∷ j.more)) (Ok (x ∷ j.value)) (omega arith)
+          (h.again m (omega arith) (j.front ++ (j.next ∷ j.more)) (λ st. absurd (nothing_follows (j.front ++ (j.next ∷ j.more)) st)))
+          (rw (j.fills m lt) refl));
+      shallow = shallow_append (suc n) 0 h.front j.front h.shallow (rw h.open_behind j.shallow);
+      open_behind = opened_append 0 h.front j.front ∙ ap (λ o. opened o j.front) h.open_behind ∙ j.open_behind;
+    }
+
+deep_within : (k n : ℕ) (ts left : List Token) → length ts < k → file_at (suc n) ts ≡ too_deep left → FileDeep (suc n) ts left
+deep_within zero n ts left lt e = absurd (omega arith)
+deep_within (suc k) n [] left lt e = absurd (never [] (record { left = left; why = TooDeep }) (sym (file_nothing (suc n)) ∙ e))
+deep_within (suc k) n (t ∷ ts) left lt e =
+    elim (bind_err (entry_at (suc n) (t ∷ ts)) (behind_entry (file_at (suc n))) (record { left = left; why = TooDeep }) (sym (file_turn n t ts) ∙ e)) [
+      | inl f ↦ deep_first n (t ∷ ts) left f
+      | inr p ↦
+          let less : length p.0.1 < length (t ∷ ts) = entry_shrinks n (t ∷ ts) p.0.0 p.0.1 p.1 in
+          deep_second n (t ∷ ts) left p.0.0 p.0.1 p.1 (deep_within k n p.0.1 left (omega arith) (failed_first (file_at (suc n) p.0.1) p.0.0 (record { left = left; why = TooDeep }) p.2))
+    ]
+
+-- ---- more room changes nothing that was read
+
+entry_again : (n m : ℕ) (ts : List Token) (x : Entry) (mid : List Token) → suc n ≤ m → Kept (suc n) (suc n) 0 0 (item_shape (kinds.Include ∷ kinds.Keyword words.Module ∷ []) []) entry_at ts x mid → entry_at m ts ≡ Ok (x, mid)
+entry_again n m ts x mid le h =
+    let again : entry_at m (h.front ++ mid) ≡ Ok (x, mid) = h.again m le mid (λ st. refl) in
+    ap (entry_at m) h.whole ∙ again
+
+more_room : (k n m : ℕ) (ts : List Token) (es : List Entry) → length ts < k → suc n ≤ m → file_at (suc n) ts ≡ Ok es → file_at m ts ≡ Ok es
+more_room zero n m ts es lt le e = absurd (omega arith)
+more_room (suc k) n m [] es lt le e = file_nothing m ∙ sym (file_nothing (suc n)) ∙ e
+more_room (suc k) n m (t ∷ ts) es lt le e =
+    let p = bind_ok (entry_at (suc n) (t ∷ ts)) (behind_entry (file_at (suc n))) es (sym (file_turn n t ts) ∙ e) in
+    let q = bind_ok (file_at (suc n) p.0.1) (λ others. Ok (p.0.0 ∷ others)) es p.2 in
+    let less : length p.0.1 < length (t ∷ ts) = entry_shrinks n (t ∷ ts) p.0.0 p.0.1 p.1 in
+    let h = (entry (suc (length (t ∷ ts))) n).keeps (t ∷ ts) p.0.0 p.0.1 (omega arith) p.1 in
+    let first = entry_again n m (t ∷ ts) p.0.0 p.0.1 le h in
+    file_on n m (t ∷ ts) p.0.0 p.0.1 (Ok es) le first (rw (more_room k n m p.0.1 q.0 (omega arith) le q.1) q.2)
+
+-- ---- the fault
+
+not_a_file : (n : ℕ) (front : List Token) (t : Token) → ((m : ℕ) → n ≤ m → (others : List Token) → file_at m (front ++ (t ∷ others)) ≡ halted (t ∷ others)) → (others : List Token) → AnyFile (front ++ (t ∷ others)) → ⊥
+not_a_file n front t stuck others (depth, es, file) =
+    let ts = front ++ (t ∷ others) in
+    let read = more_room (suc (length ts)) depth (suc depth + n) ts es (omega arith) (omega arith) (file_complete depth ts es file) in
+    never es (record { left = t ∷ others; why = Unexpected }) (sym read ∙ stuck (suc depth + n) (omega arith) others)
+
+longest : (n : ℕ) (front left : List Token) → ((t : Token) (l : List Token) → left ≡ t ∷ l → (m : ℕ) → n ≤ m → (others : List Token) → file_at m (front ++ (t ∷ others)) ≡ halted (t ∷ others)) → (d : ℕ) → length front + suc d ≤ length (front ++ left) → Begins AnyFile (take (length front + suc d) (front ++ left)) → ⊥
+longest n front [] stuck d within begins = omega (arith, length-append front [])
+longest n front (t ∷ l) stuck d within begins =
+    let cut : take (length front + suc d) (front ++ (t ∷ l)) ≡ front ++ (t ∷ take d l) = take-append-add front (t ∷ l) (suc d) in
+    let whole : take (length front + suc d) (front ++ (t ∷ l)) ++ begins.more ≡ front ++ (t ∷ (take d l ++ begins.more)) = ap (λ z. z ++ begins.more) cut ∙ append_assoc front (t ∷ take d l) begins.more in
+    not_a_file n front t (stuck t l refl) (take d l ++ begins.more) (subst AnyFile whole begins.word)
+
+unexpected_at : (n : ℕ) (front left : List Token) (more : List Token) (value : List Entry) → file_at (suc (suc n)) (front ++ more) ≡ Ok value → ((t : Token) (l : List Token) → left ≡ t ∷ l → (m : ℕ) → suc n ≤ m → (others : List Token) → file_at m (front ++ (t ∷ others)) ≡ halted (t ∷ others)) → Shallow (suc n) 0 front → UnexpectedAt (suc n) (front ++ left) (length front)
+unexpected_at n front left more value fills stuck shallow = record {
+  longest = record {
+    within = omega (arith, length-append front left);
+    front = rw (take-append_seam front left) (record { more = more; word = (suc n, value, file_sound (suc n) (front ++ more) value fills) });
+    longest = λ j above within begins.
+        let e : j ≡ length front + suc (j - suc (length front)) = omega arith in
+        longest (suc n) front left stuck (j - suc (length front)) (subst (λ i. i ≤ length (front ++ left)) e within) (subst (λ i. Begins AnyFile (take i (front ++ left))) e begins);
+  };
+  shallow = rw (take-append_seam front left) shallow;
+}
+
+too_deep_at : (n : ℕ) (front : List Token) (next : Token) (others more : List Token) (value : List Entry) → file_at (suc (suc (suc n))) (front ++ (next ∷ more)) ≡ Ok value → Shallow (suc n) 0 front → opened 0 front ≡ suc n → TooDeepAt (suc n) (front ++ (next ∷ others)) (length front)
+too_deep_at n front next others more value fills shallow nested =
+    let one_more : suc (length front) ≡ length front + 1 = omega arith in
+    let cut : take (suc (length front)) (front ++ (next ∷ others)) ≡ front ++ (next ∷ []) = ap (λ i. take i (front ++ (next ∷ others))) one_more ∙ take-append-add front (next ∷ others) 1 in
+    record {
+      within = omega (arith, length-append front (next ∷ others));
+      goes_on = rw cut (record { more = more; word = (suc (suc n), value, subst (λ ts. IsFile (suc (suc (suc n))) ts value) (sym (append_assoc front (next ∷ []) more)) (file_sound (suc (suc n)) (front ++ (next ∷ more)) value fills)) });
+      shallow = rw (take-append_seam front (next ∷ others)) shallow;
+      nested = rw (take-append_seam front (next ∷ others)) nested;
+    }
+
+pub file_fault : (n : ℕ) (ts left : List Token) (why : ParseWhy) → file_at (suc n) ts ≡ Err (record { left = left; why = why }) → (place : ℕ) × (drop place ts ≡ left) × StopsAt (suc n) ts place why
+file_fault n ts left Unexpected e =
+    let h = stays_within (suc (length ts)) n ts left (omega arith) e in (
+      length h.front,
+      ap (drop (length h.front)) h.whole ∙ drop-append_seam h.front left,
+      subst (λ us. UnexpectedAt (suc n) us (length h.front)) (sym h.whole) (unexpected_at n h.front left h.more h.value (h.fills (suc (suc n)) (omega arith)) h.stuck h.shallow),
+    )
+file_fault n ts left TooDeep e =
+    let h = deep_within (suc (length ts)) n ts left (omega arith) e in (
+      length h.front,
+      ap (drop (length h.front)) h.whole ∙ drop-append_seam h.front left,
+      subst (λ us. TooDeepAt (suc n) us (length h.front)) (ap (λ l. h.front ++ l) (sym h.is) ∙ sym h.whole) (too_deep_at n h.front h.next h.others h.more h.value (h.fills (suc (suc (suc n))) (omega arith)) h.shallow h.open_behind),
+    )

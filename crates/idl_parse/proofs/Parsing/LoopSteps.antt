@@ -1,0 +1,47 @@
+-- A loop reads on what is left: what it has so far, and what is left gives, are the whole.
+use Rattle.std.proofs.Common.{◌≡◌, true, false, Result, Ok, Err, List, [], ◌∷◌, ◌++◌, refl, sym, ap, ◌∙◌, append_assoc}
+use Rattle.std.proofs.lemmas.List.{append-nil}
+use Rattle.idl_parse.specs.KindSteps.{begins}
+use Rattle.idl_parse.specs.ReadSteps.{Stop, Read, ◌>>=◌, Fails, mark_at, with_front, until_at}
+use Rattle.idl_parse.specs.declared.kind.Kind.TheVariants as kinds
+use Rattle.idl_parse.specs.declared.parser.halt.Halt.{Halt}
+use Rattle.idl_parse.specs.declared.parser.halt.Halt.TheVariants as halts
+use Rattle.idl_parse.specs.declared.sign.Sign.{Sign}
+use Rattle.idl_parse.specs.declared.token.Token.{Token}
+use Rattle.idl_parse.specs.ReadSteps.{Shrinks}
+use Rattle.idl_parse.proofs.Parsing.Loops.{until_turn}
+
+regroup : {A : Type 0} (front : List A) (x : A) (read : Read (List A)) → with_front front (read >>= λ xs. Ok (x ∷ xs.0, xs.1)) ≡ with_front (front ++ x ∷ []) read
+regroup front x (Ok xs) = ap (λ ys. Ok (ys, xs.1)) (sym (append_assoc front (x ∷ []) xs.0))
+regroup front x (Err s) = refl
+
+pub fails_first : {A B : Type 0} (e : Halt) (first : Result A Stop) (rest : Result B Stop) → Fails e first → ((s : Stop) → first ≡ Err s → rest ≡ Err s) → Fails e rest
+fails_first halts.Memory first rest h on = tt
+fails_first (halts.At left why) first rest h on = on (record { left = left.now; why = why }) h
+
+pub nothing_before : {A : Type 0} (read : Read (List A)) → with_front [] read ≡ read
+nothing_before (Ok xs) = refl
+nothing_before (Err s) = refl
+
+module _ {A : Type 0} (sign : Sign) (f : List Token → Read A) (shrinks : Shrinks f) where
+  pub loop_goes_on : (front : List A) (ts : List Token) (x : A) (after : List Token) (total : Read (List A)) → begins (kinds.Sign sign) ts ≡ false → f ts ≡ Ok (x, after) → with_front front (until_at sign f ts) ≡ total → with_front (front ++ x ∷ []) (until_at sign f after) ≡ total
+  loop_goes_on front ts x after total b e so_far =
+      let turn : until_at sign f ts ≡ (until_at sign f after >>= λ xs. Ok (x ∷ xs.0, xs.1)) = until_turn sign f shrinks ts ∙ rw (b, e) refl in
+      sym (regroup front x (until_at sign f after)) ∙ ap (with_front front) (sym turn) ∙ so_far
+
+  pub loop_fails : (e : Halt) (front : List A) (ts : List Token) (total : Read (List A)) → begins (kinds.Sign sign) ts ≡ false → Fails e (f ts) → with_front front (until_at sign f ts) ≡ total → Fails e total
+  loop_fails e front ts total b h so_far =
+      fails_first e (f ts) total h (λ s failed.
+      let turn : until_at sign f ts ≡ Err s = until_turn sign f shrinks ts ∙ rw (b, failed) refl in
+      sym so_far ∙ rw turn refl)
+
+  pub loop_ends : (front : List A) (ts : List Token) (t : Token) (rest : List Token) (total : Read (List A)) → begins (kinds.Sign sign) ts ≡ true → mark_at sign ts ≡ Ok (t, rest) → with_front front (until_at sign f ts) ≡ total → total ≡ Ok (front, rest)
+  loop_ends front ts t rest total b e so_far =
+      let turn : until_at sign f ts ≡ Ok ([], rest) = until_turn sign f shrinks ts ∙ rw (b, e) refl in
+      sym so_far ∙ rw turn (ap (λ ys. Ok (ys, rest)) (append-nil front))
+
+  pub loop_end_fails : (e : Halt) (front : List A) (ts : List Token) (total : Read (List A)) → begins (kinds.Sign sign) ts ≡ true → Fails e (mark_at sign ts) → with_front front (until_at sign f ts) ≡ total → Fails e total
+  loop_end_fails e front ts total b h so_far =
+      fails_first e (mark_at sign ts) total h (λ s failed.
+      let turn : until_at sign f ts ≡ Err s = until_turn sign f shrinks ts ∙ rw (b, failed) refl in
+      sym so_far ∙ rw turn refl)
