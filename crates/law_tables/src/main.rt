@@ -1,37 +1,57 @@
-//! Tables of worked cases for the crates below, as tests; their values come from docs/PROTOCOL.md and
-//! docs/IDL.md, by hand. The program scans files, and prints for each whether its bytes are a body of
-//! tagged fields (docs/PROTOCOL.md, "Reading"), so that scanning can be timed.
+//! Worked cases for `tars_wire` and `idl_parse`: the files `data/*.rows` have the cases, a row each, and
+//! `stdout` what each of them comes to. What comes of a row was worked by hand from docs/PROTOCOL.md and
+//! docs/IDL.md; it is printed in the row's place, and comments and empty lines are printed as they are.
+//!
+//! The program takes the names of files. Of a file that is no table it prints whether its bytes are a body
+//! of tagged fields (docs/PROTOCOL.md, "Reading"), so that scanning can be timed.
 #![tactic(auto)]
 
-#[cfg(test)]
-mod grammar;
-#[cfg(test)]
-mod tokens;
-#[cfg(test)]
-mod wire;
+mod row_text;
+mod rows;
+mod shape;
+mod walk;
 
-use std::{env, fs, io};
+use rows::answer;
+use std::{env, fs, io, str};
 use tars_wire::scan;
 
 /// The longest file that is scanned.
 const MAX_FILE: usize = 1 << 30;
 
-/// Prints whether the bytes of a file are a body.
-fn report(rt: &HostRuntime, name: &str) -> io::Result<()> {
-    let bytes = fs::read(rt, name)?;
+/// Prints whether the bytes are a body.
+fn print_scan(rt: &HostRuntime, name: &str, bytes: &[u8]) -> io::Result<()> {
     let len = bytes.len();
     if len > MAX_FILE {
         return println!(rt; "{name}: {len} bytes are too many");
     }
-    match scan(&bytes) {
+    match scan(bytes) {
         Ok(_) => println!(rt; "{name}: a body of {len} bytes"),
         Err(fault) => println!(rt; "{name}: {fault}"),
     }
 }
 
+/// Prints what comes of each row of a table.
+fn print_rows(rt: &HostRuntime, name: &str, bytes: &[u8]) -> io::Result<()> {
+    let Ok(text) = str::from_utf8(bytes) else {
+        return println!(rt; "{name}: no text");
+    };
+    for row in text.lines() {
+        match answer(rt.alloc(), row) {
+            Ok(answer) => println!(rt; "{answer}")?,
+            Err(_) => println!(rt; "no memory")?,
+        }
+    }
+    Ok(())
+}
+
 fn main(rt: HostRuntime) -> io::Result<()> {
     for name in env::args(&rt)?.skip(1) {
-        report(&rt, &name)?;
+        let bytes = fs::read(&rt, &name)?;
+        if name.ends_with(".rows") {
+            print_rows(&rt, &name, &bytes)?;
+        } else {
+            print_scan(&rt, &name, &bytes)?;
+        }
     }
     Ok(())
 }

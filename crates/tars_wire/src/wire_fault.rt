@@ -4,7 +4,7 @@ ghost use Rattle.tars_wire.specs.Faults.{number_of, word_of, words_of};
 use std::fmt;
 
 /// Why bytes are no body.
-#[derive(Clone, Copy, PartialEq, Eq)]
+#[derive(Clone, Copy, Debug, PartialEq, Eq)]
 pub enum WireWhy {
     /// The bytes end inside a body.
     Short,
