@@ -8,11 +8,12 @@ use Rattle.session.specs.declared.interface_fault.FileFault.TheVariants as file
 use Rattle.session.specs.declared.refused_text.ScriptFault.{ScriptFault}
 use Rattle.session.specs.declared.refused_text.ScriptFault.TheVariants as script
 use Rattle.session.specs.declared.refused_text.Stage.{Stage}
-use Rattle.session.specs.declared.refused_text.Stage.TheVariants.{Lex, Parse, Check, Script}
+use Rattle.session.specs.declared.refused_text.Stage.TheVariants.{Size, Lex, Parse, Check, Script}
 use Rattle.session.specs.declared.refused_text.TextFault.{TextFault}
 
 -- how a stage is written
 abbrev pub stage_text : Stage → List ℕ
+stage_text Size = codes "size"
 stage_text Lex = codes "lex"
 stage_text Parse = codes "parse"
 stage_text Check = codes "check"

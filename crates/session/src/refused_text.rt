@@ -9,6 +9,8 @@ use std::fmt;
 /// What judges a text.
 #[derive(Clone, Copy, Debug, PartialEq, Eq)]
 pub enum Stage {
+    /// How long the text is.
+    Size,
     Lex,
     Parse,
     Check,
@@ -20,6 +22,7 @@ impl fmt::Display for Stage {
 
     fn fmt<W: fmt::Write>(&self, f: &mut fmt::Formatter<W>) -> fmt::Result {
         match self {
+            Stage::Size => f.write_str("size"),
             Stage::Lex => f.write_str("lex"),
             Stage::Parse => f.write_str("parse"),
             Stage::Check => f.write_str("check"),
