@@ -6,6 +6,7 @@
 //! of tagged fields (docs/PROTOCOL.md, "Reading"), so that scanning can be timed.
 #![tactic(auto)]
 
+mod descriptors;
 mod row_text;
 mod rows;
 mod shape;

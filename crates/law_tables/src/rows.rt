@@ -2,6 +2,7 @@
 
 ghost use Rattle.std.specs.Prelude.{◌<◌, ◌^◌, length};
 
+use crate::descriptors::{interfaces, members};
 use crate::row_text::bytes_of;
 use crate::shape::shape_of;
 use crate::walk::walked;
@@ -167,6 +168,8 @@ pub fn answer(alloc: Global, row: &str) -> Result<String, AllocError> {
         "includes" => included(alloc, &bytes),
         "entries" => counted_entries(alloc, &bytes),
         "reason" => reason(alloc, &bytes),
+        "members" => members(alloc, &bytes),
+        "interfaces" => interfaces(alloc),
         _ => String::from_str(alloc, row),
     }
 }
