@@ -1,5 +1,1 @@
-pub mod Words
-pub mod Due
-pub mod Runs
 pub mod Sources
-pub mod WordSteps

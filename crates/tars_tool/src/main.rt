@@ -1,24 +1,19 @@
-//! The program. `run` does its work over files and a sink; here stand the words of the command line,
-//! the objects of the system, and the exit status.
+//! The program. `run` of `tars_command` does its work over files and a sink; here stand the arguments of the
+//! command line, the objects of the system, and the exit status.
 #![tactic(auto)]
 
-mod laws;
 mod opener;
 mod real_files;
 mod real_sink;
-mod run;
-#[cfg(test)]
-mod tests;
-mod words;
 
 use opener::System;
 use real_files::RealFiles;
 use real_sink::RealSink;
-use run::run;
 use std::env;
 use std::io::ErrorKind;
 use std::process::ExitCode;
 use tars_base::Status;
+use tars_command::run;
 
 /// Runs the words of the command line, behind the program's name.
 fn run_words(rt: &HostRuntime) -> Status {

@@ -1,0 +1,87 @@
+//! A run over files and a sink in memory.
+
+use crate::row_text::text_of;
+use std::alloc::{AllocError, Global};
+use std::str;
+use tars_base::{MemFiles, MemSink, NamedFile, Status};
+use tars_command::run;
+
+pub const CALC: &str = "module M { interface Calc { int add(int a, int b); }; };\n";
+
+/// The head of a script, without events.
+pub const HEADER: &str = "client calc.tars
+interface M::Calc
+object A.B.C@tcp -h 127.0.0.1 -p 9001 -t 3000
+servant add add a b
+";
+
+pub const FIRST: &str = "client calc.tars
+interface M::Calc
+object A.B.C@tcp -h 127.0.0.1 -p 9001 -t 3000
+servant add add a b
+call 1 add 2 3
+serve 1
+work 1
+deliver 1
+";
+
+/// The arguments of a run, the texts of `first.plan` and `calc.tars`, and the numbers of the read and of the write
+/// that are to fail; 0 is none.
+#[derive(Clone, Copy)]
+pub struct Case<'a> {
+    pub arguments: &'a str,
+    pub script: &'a str,
+    pub interface: &'a str,
+    pub failing_read: u64,
+    pub failing_write: u64,
+}
+
+/// The arguments that stand between spaces.
+fn arguments_of(alloc: Global, text: &str) -> Result<Vec<String>, AllocError> {
+    let mut arguments = Vec::new(alloc);
+    for argument in text.split_ascii_whitespace() {
+        arguments.push(text_of(alloc, argument)?)?;
+    }
+    Ok(arguments)
+}
+
+fn named(alloc: Global, name: &str, text: &str) -> Result<NamedFile, AllocError> {
+    let name = String::from_str(alloc, name)?;
+    let bytes = text.as_bytes().to_vec(alloc)?;
+    Ok(NamedFile { name, bytes })
+}
+
+/// Files of which one read is to fail.
+fn files_of(
+    alloc: Global,
+    script: NamedFile,
+    interface: NamedFile,
+    failing: u64,
+) -> Result<MemFiles, AllocError> {
+    let files = vec![in alloc; script, interface]?;
+    Ok(MemFiles::new(files, vec![in alloc; failing]?))
+}
+
+/// A sink that takes a byte at a time, of which one write is to fail.
+fn sink_of(alloc: Global, failing: u64) -> Result<MemSink, AllocError> {
+    let mut sink = MemSink::new(alloc, 1, vec![in alloc; failing]?);
+    sink.reserve(alloc, 4000)?;
+    Ok(sink)
+}
+
+/// The files and the sink of a case.
+fn outside_of(alloc: Global, case: &Case) -> Result<(MemFiles, MemSink), AllocError> {
+    let script = named(alloc, "first.plan", case.script)?;
+    let interface = named(alloc, "calc.tars", case.interface)?;
+    let files = files_of(alloc, script, interface, case.failing_read)?;
+    Ok((files, sink_of(alloc, case.failing_write)?))
+}
+
+/// How a run ends, and what it writes.
+pub fn ran(alloc: Global, case: &Case) -> Result<(Status, String), AllocError> {
+    let arguments = arguments_of(alloc, case.arguments)?;
+    let (mut files, mut sink) = outside_of(alloc, case)?;
+    let status = run(alloc, &arguments, &mut files, &mut sink);
+    let text = str::from_utf8(sink.bytes()).unwrap_or("no text");
+    Ok((status, String::from_str(alloc, text)?))
+}

@@ -1,0 +1,36 @@
+//! Worked cases for `run` of `tars_command`: the files `data/*.rows` have the cases, a row each, and `stdout` what each
+//! of them comes to. What comes of a row was worked by hand from docs/SCRIPTS.md, docs/IDL.md and docs/PROTOCOL.md; it
+//! is printed in the row's place, and comments and empty lines are printed as they are.
+//!
+//! The program takes the names of the tables. Each row is a run over files and a sink in memory.
+#![tactic(auto)]
+
+mod case;
+mod row_text;
+mod rows;
+mod told;
+
+use rows::outcome_of;
+use std::{env, fs, io, str};
+
+/// Prints what comes of each row of a table.
+fn print_rows(rt: &HostRuntime, name: &str, bytes: &[u8]) -> io::Result<()> {
+    let Ok(text) = str::from_utf8(bytes) else {
+        return println!(rt; "{name}: no text");
+    };
+    for row in text.lines() {
+        match outcome_of(rt.alloc(), row) {
+            Ok(outcome) => println!(rt; "{outcome}")?,
+            Err(_) => println!(rt; "no memory")?,
+        }
+    }
+    Ok(())
+}
+
+fn main(rt: HostRuntime) -> io::Result<()> {
+    for name in env::args(&rt)?.skip(1) {
+        let bytes = fs::read(&rt, &name)?;
+        print_rows(&rt, &name, &bytes)?;
+    }
+    Ok(())
+}

@@ -1,0 +1,137 @@
+//! What comes of a row: a word, and what it is asked of.
+
+use crate::case::{CALC, Case, FIRST, HEADER, ran};
+use crate::row_text::text_of;
+use crate::told::told;
+use std::alloc::{AllocError, Global};
+use tars_base::Status;
+
+/// The script `first.plan` is run, and no call fails.
+const PLAIN: Case = Case {
+    arguments: "plan first.plan",
+    script: FIRST,
+    interface: CALC,
+    failing_read: 0,
+    failing_write: 0,
+};
+
+/// A status, and the text that was written, if there is one.
+fn shown(alloc: Global, status: Status, text: &str) -> Result<String, AllocError> {
+    if text.is_empty() {
+        return format!(in alloc; "{status:?}");
+    }
+    let text = text.replace(alloc, "\n", "~n")?;
+    format!(in alloc; "{status:?}: {text}")
+}
+
+/// What comes of a case.
+fn outcome(alloc: Global, case: &Case) -> Result<String, AllocError> {
+    let (status, text) = ran(alloc, case)?;
+    shown(alloc, status, &text)
+}
+
+/// `N ARGUMENTS`: a number, and the arguments.
+fn numbered(text: &str) -> (u64, &str) {
+    let (number, arguments) = text.split_once(' ').unwrap_or((text, ""));
+    (number.parse::<u64>().unwrap_or(0), arguments)
+}
+
+/// `run ARGUMENTS`: no call fails.
+fn no_fault(arguments: &str) -> Case {
+    Case { arguments, ..PLAIN }
+}
+
+/// `read N ARGUMENTS`: the read of this number fails.
+fn read_fault(text: &str) -> Case {
+    let (failing_read, arguments) = numbered(text);
+    Case {
+        failing_read,
+        ..no_fault(arguments)
+    }
+}
+
+/// `write N ARGUMENTS`: the write of this number fails.
+fn write_fault(text: &str) -> Case {
+    let (failing_write, arguments) = numbered(text);
+    Case {
+        failing_write,
+        ..no_fault(arguments)
+    }
+}
+
+/// `A => B`: two texts. Where B is empty, no space stands after the arrow.
+fn two_texts(text: &str) -> (&str, &str) {
+    let (first, second) = text.split_once(" =>").unwrap_or((text, ""));
+    (first, second.strip_prefix(' ').unwrap_or(second))
+}
+
+/// A text with `OLD => NEW` carried out in it.
+fn replaced(alloc: Global, whole: &str, text: &str) -> Result<String, AllocError> {
+    let change = text_of(alloc, text)?;
+    let (old, new) = two_texts(&change);
+    Ok(whole.replace(alloc, old, new)?)
+}
+
+/// `script OLD => NEW`: the script with a change.
+fn script(alloc: Global, text: &str) -> Result<String, AllocError> {
+    let script = replaced(alloc, FIRST, text)?;
+    let case = Case {
+        script: &script,
+        ..PLAIN
+    };
+    outcome(alloc, &case)
+}
+
+/// `interface OLD => NEW`: the interface file with a change.
+fn interface(alloc: Global, text: &str) -> Result<String, AllocError> {
+    let interface = replaced(alloc, CALC, text)?;
+    let case = Case {
+        interface: &interface,
+        ..PLAIN
+    };
+    outcome(alloc, &case)
+}
+
+/// `texts SCRIPT => INTERFACE`: other texts.
+fn texts(alloc: Global, text: &str) -> Result<String, AllocError> {
+    let both = text_of(alloc, text)?;
+    let (script, interface) = two_texts(&both);
+    let case = Case {
+        script,
+        interface,
+        ..PLAIN
+    };
+    outcome(alloc, &case)
+}
+
+/// `events EVENT; EVENT ..`: other events. Of a report that is printed is shown what it tells.
+fn events(alloc: Global, text: &str) -> Result<String, AllocError> {
+    let events = text_of(alloc, text)?.replace(alloc, "; ", "\n")?;
+    let script = format!(in alloc; "{HEADER}{events}")?;
+    let case = Case {
+        script: &script,
+        ..PLAIN
+    };
+    match ran(alloc, &case)? {
+        (Status::Done, report) => {
+            let told = told(alloc, &report)?;
+            shown(alloc, Status::Done, &told)
+        }
+        (status, text) => shown(alloc, status, &text),
+    }
+}
+
+/// What comes of a row. One that asks for nothing is a comment, and is given back.
+pub fn outcome_of(alloc: Global, row: &str) -> Result<String, AllocError> {
+    let (word, text) = row.split_once(' ').unwrap_or((row, ""));
+    match word {
+        "run" => outcome(alloc, &no_fault(text)),
+        "read" => outcome(alloc, &read_fault(text)),
+        "write" => outcome(alloc, &write_fault(text)),
+        "script" => script(alloc, text),
+        "interface" => interface(alloc, text),
+        "texts" => texts(alloc, text),
+        "events" => events(alloc, text),
+        _ => String::from_str(alloc, row),
+    }
+}

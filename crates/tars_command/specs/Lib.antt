@@ -1,0 +1,4 @@
+pub mod Words
+pub mod Due
+pub mod Runs
+pub mod WordSteps

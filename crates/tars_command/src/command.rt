@@ -1,0 +1,81 @@
+//! A run over files and a sink. What it should do is said by `specs/Due.antt`.
+
+ghost use Rattle.std.specs.Prelude.{◌≡◌, ◌≢◌, ◌↔◌, ℕ, List, map, string_bytes, IfOk, IfSome};
+ghost use Rattle.session.specs.Loading.{IsLoaded};
+ghost use Rattle.session.specs.Planned.{planned};
+ghost use Rattle.report_lines.specs.ReportText.{report_text_of};
+ghost use Rattle.tars_base.specs.Causes.{HasCauseOf, Rose};
+ghost use Rattle.tars_base.specs.Contents.{IsToldOnly};
+ghost use Rattle.tars_command.specs.Due.{Due};
+ghost use Rattle.tars_command.specs.Words.{AskForPlan, AreNoForm};
+ghost use Rattle.tars_command.specs.Runs.{WritesDue, EndsAsDue, PrintsSession, KeepsQuiet};
+ghost use Rattle.tars_command.specs.Runs.{due_of, IsSessionText, EndsWith};
+
+use crate::words::planned_script;
+use session::{LoadFault, Loaded, Mode, load, report_text, run_plan};
+use std::alloc::{AllocError, Global};
+use tars_base::{Failed, Files, Sink, Status, write_all};
+
+/// The report of a session, as it is printed.
+fn session_text(alloc: Global, loaded: &Loaded) -> Result<Vec<u8>, AllocError>
+    requires { IsLoaded loaded.now }
+    ensures { IfOk result (λ text. text.items ≡ report_text_of loaded.now (planned loaded.now)) }
+{
+    let report = run_plan(alloc, loaded)?;
+    report_text(alloc, loaded, &report)
+}
+
+/// What `plan SCRIPT` prints.
+#[tactic(auto, using(crate::proofs::DueLaws::due_done, crate::proofs::DueLaws::due_refused))]
+fn plan_text<F: Files>(alloc: Global, files: &mut F, script: &str) -> Result<Vec<u8>, LoadFault>
+    ensures sound { IfOk result (λ text. IsSessionText text.items) }
+    ensures exact { (words : List (List ℕ)) → AskForPlan words script.now
+        → IfSome (due_of result) (λ a. IsToldOnly (F.contents files.old) (λ contents. Due contents words) a) }
+    ensures same { F.contents files.new ≡ F.contents files.old }
+    ensures cause { HasCauseOf LoadFault.Read (F.faults files.old) (F.faults files.new) result }
+{
+    let loaded = load(alloc, files, script, Mode::Plan)?;
+    Ok(session_text(alloc, &loaded)?)
+}
+
+/// Writes a text, and answers how the run ends: as it is meant to, if all was written.
+fn end_with<S: Sink>(out: &mut S, text: &[u8], meant: Status) -> Status
+    requires { meant ≢ Status.WriteFault }
+    ensures written { EndsWith (S.written out.old) (S.written out.new) text.now meant result }
+    ensures cause { result ≡ Status.WriteFault → Rose (S.faults out.old) (S.faults out.new) }
+    ensures kept { result ≢ Status.WriteFault → S.faults out.new ≡ S.faults out.old }
+{
+    match write_all(out, text) {
+        Ok(()) => meant,
+        Err(Failed) => Status::WriteFault,
+    }
+}
+
+/// Carries out what the words ask for. The whole text is made before its first byte is written.
+pub fn run<F: Files, S: Sink>(alloc: Global, words: &[String], files: &mut F, out: &mut S) -> Status
+    // Where the files are told, what is due is written, and the run ends as it may for that.
+    ensures due { WritesDue (F.contents files.old) (map string_bytes words.now)
+        (S.written out.old) (S.written out.new) result }
+    ensures only { EndsAsDue (F.contents files.old) (map string_bytes words.now) result }
+    // Whether they are told or not.
+    ensures usage { (result ≡ Status.Usage) ↔ AreNoForm (map string_bytes words.now) }
+    ensures sound { PrintsSession (S.written out.old) (S.written out.new) result }
+    ensures quiet { KeepsQuiet (S.written out.old) (S.written out.new) result }
+    ensures same { F.contents files.new ≡ F.contents files.old }
+    // The causes of the faults. A count rises in no other run.
+    ensures read { result ≡ Status.ReadFault → Rose (F.faults files.old) (F.faults files.new) }
+    ensures no_read { result ≢ Status.ReadFault → F.faults files.new ≡ F.faults files.old }
+    ensures write { result ≡ Status.WriteFault → Rose (S.faults out.old) (S.faults out.new) }
+    ensures no_write { result ≢ Status.WriteFault → S.faults out.new ≡ S.faults out.old }
+    ensures net { result ≢ Status.NetFault }
+{
+    let Some(script) = planned_script(words) else {
+        return Status::Usage;
+    };
+    match plan_text(alloc, files, script) {
+        Ok(text) => end_with(out, &text, Status::Done),
+        Err(LoadFault::Refused { line }) => end_with(out, line.as_slice(), Status::Refused),
+        Err(LoadFault::Read) => Status::ReadFault,
+        Err(LoadFault::Memory) => Status::Memory,
+    }
+}
