@@ -2,7 +2,7 @@
 -- types may stand one inside the other.
 use Rattle.std.specs.Prelude.{ℕ, zero, suc, Bool, true, false, Option, Some, None, List, [], ◌∷◌}
 use Rattle.idl_parse.specs.Rules.{Rel, Gives, ◌⟫◌, One, Means, Either, Maybe, Many}
-use Rattle.idl_parse.specs.Words.{span, basic_of, unsigned_of, requirement_of, literal_of}
+use Rattle.idl_parse.specs.Words.{span, basic_of, unsigned_of, requirement_of, literal_of, scoped_name}
 use Rattle.idl_parse.specs.declared.keyword.Keyword.TheVariants as words
 use Rattle.idl_parse.specs.declared.kind.Kind.{Kind}
 use Rattle.idl_parse.specs.declared.kind.Kind.TheVariants as kinds
@@ -49,7 +49,7 @@ Number = Place kinds.Number
 
 -- ident [ "::" ident ]
 abbrev pub Scoped : Rel ScopedName
-Scoped = Ident ⟫ λ first. Maybe (Mark PathSep ⟫ λ _. Ident) ⟫ λ second. Gives (record { first = first; second = second })
+Scoped = Ident ⟫ λ first. Maybe (Mark PathSep ⟫ λ _. Ident) ⟫ λ second. Gives (scoped_name first second)
 
 -- "[" number "]"
 abbrev pub Array : Rel ArrayLen
@@ -70,8 +70,8 @@ UnsignedOf = Word words.Unsigned ⟫ λ unsigned. Means unsigned_of ⟫ λ word.
 
 abbrev pub VectorOf : Rel TypeTree → Rel TypeTree
 VectorOf Inner =
-    Word words.Vector ⟫ λ vector. Mark Less ⟫ λ _. Inner ⟫ λ of. Mark Greater ⟫ λ _.
-    Gives (types.Vector vector.start of)
+    Word words.Vector ⟫ λ vector. Mark Less ⟫ λ _. Inner ⟫ λ element. Mark Greater ⟫ λ _.
+    Gives (types.Vector vector.start element)
 
 abbrev pub MapOf : Rel TypeTree → Rel TypeTree
 MapOf Inner =
@@ -101,9 +101,9 @@ Listed P = P ⟫ λ x. Many (Mark Comma ⟫ λ _. P) ⟫ λ xs. Gives (x ∷ xs)
 -- member = number ("require" | "optional") type ident [ "[" number "]" ] [ "=" literal ]
 abbrev pub Member : ℕ → Rel MemberTree
 Member room =
-    Number ⟫ λ tag. Means requirement_of ⟫ λ require. Typed room ⟫ λ typed. Maybe Array ⟫ λ array.
+    Number ⟫ λ tag. Means requirement_of ⟫ λ requirement. Typed room ⟫ λ typed. Maybe Array ⟫ λ array.
     Maybe (Mark Equals ⟫ λ _. LiteralOf) ⟫ λ default.
-    Gives (record { tag = tag; require = require.1; typed = typed; array = array; default = default })
+    Gives (record { tag = tag; requirement = requirement.1; typed = typed; array = array; default = default })
 
 -- struct = "struct" ident "{" { member ";" } "}"
 abbrev pub Struct : ℕ → Rel DeclTree
@@ -133,8 +133,8 @@ Const room =
 -- key = "key" "[" ident { "," ident } "]"
 abbrev pub Key : Rel DeclTree
 Key =
-    Word words.Key ⟫ λ _. Mark OpenBracket ⟫ λ _. Ident ⟫ λ of. Many (Mark Comma ⟫ λ _. Ident) ⟫ λ members. Mark CloseBracket ⟫ λ _.
-    Gives (decls.Key (record { of = of; members = members }))
+    Word words.Key ⟫ λ _. Mark OpenBracket ⟫ λ _. Ident ⟫ λ struct_name. Many (Mark Comma ⟫ λ _. Ident) ⟫ λ members. Mark CloseBracket ⟫ λ _.
+    Gives (decls.Key (record { struct_name = struct_name; members = members }))
 
 -- param = [ "routekey" ] [ "out" ] type ident
 abbrev pub start_of : Option Token → Option ℕ

@@ -42,7 +42,7 @@ abbrev pub NumberIn : List ℕ → Span → Type 0
 NumberIn text place = StandsAt text kinds.Number place
 
 abbrev pub ScopedIn : List ℕ → ScopedName → Type 0
-ScopedIn text name = NameIn text name.first × IfThere (NameIn text) name.second
+ScopedIn text name = IfThere (NameIn text) name.scope × NameIn text name.name
 
 -- the kind of a literal's token
 abbrev pub kind_of : LiteralWord → Kind
@@ -59,7 +59,7 @@ LiteralIn text (literals.Named name) = ScopedIn text name
 pub data TypeIn (text : List ℕ) : TypeTree → Type 0 where
   basic : {ty : TypeTree} {at : ℕ} {word : BasicType} → ty ≡ types.Basic at word → TypeIn text ty
   named : {ty : TypeTree} {name : ScopedName} → ty ≡ types.Named name → ScopedIn text name → TypeIn text ty
-  vector : {ty of : TypeTree} {at : ℕ} → ty ≡ types.Vector at of → TypeIn text of → TypeIn text ty
+  vector : {ty element : TypeTree} {at : ℕ} → ty ≡ types.Vector at element → TypeIn text element → TypeIn text ty
   map : {ty key value : TypeTree} {at : ℕ} → ty ≡ types.Map at key value → TypeIn text key → TypeIn text value → TypeIn text ty
 
 abbrev pub TypedIn : List ℕ → TypedName → Type 0
@@ -89,7 +89,7 @@ abbrev pub DeclIn : List ℕ → DeclTree → Type 0
 DeclIn text (decls.Struct s) = NameIn text s.name × All (MemberIn text) s.members
 DeclIn text (decls.Enum e) = NameIn text e.name × All (ItemIn text) e.items
 DeclIn text (decls.Const c) = TypedIn text c.typed × LiteralIn text c.value
-DeclIn text (decls.Key key) = NameIn text key.of × All (NameIn text) key.members
+DeclIn text (decls.Key key) = NameIn text key.struct_name × All (NameIn text) key.members
 DeclIn text (decls.Interface i) = NameIn text i.name × All (FuncIn text) i.funcs
 
 abbrev pub EntryIn : List ℕ → Entry → Type 0

@@ -2,7 +2,7 @@
 -- the tokens after it, or where and why reading stops.
 use Rattle.std.specs.Prelude.{◌≡◌, ◌<◌, ℕ, zero, suc, Bool, true, false, if◌then◌else◌, Option, Some, None, Result, Ok, Err, List, [], ◌∷◌, ◌++◌, length}
 use Rattle.idl_parse.specs.KindSteps.{same_kind, begins}
-use Rattle.idl_parse.specs.Words.{span, basic_of, unsigned_of, requirement_of, literal_of}
+use Rattle.idl_parse.specs.Words.{span, basic_of, unsigned_of, requirement_of, literal_of, scoped_name}
 use Rattle.idl_parse.specs.Grammar.{start_of, is_there}
 use Rattle.idl_parse.specs.declared.keyword.Keyword.TheVariants as words
 use Rattle.idl_parse.specs.declared.kind.Kind.{Kind}
@@ -96,7 +96,7 @@ unfoldable pub scoped_at : List Token → Read ScopedName
 scoped_at tokens = do
   first ← place_at kinds.Ident tokens
   second ← maybe_at (kinds.Sign PathSep) second_at first.1
-  Ok (record { first = first.0; second = second.0 }, second.1)
+  Ok (scoped_name first.0 second.0, second.1)
 
 unfoldable pub array_at : List Token → Read ArrayLen
 array_at tokens = do
@@ -178,9 +178,9 @@ behind_at sign f tokens = do
 unfoldable pub vector_at : (List Token → Read TypeTree) → List Token → Read TypeTree
 vector_at inner tokens = do
   vector ← one_at (kinds.Keyword words.Vector) tokens
-  of ← behind_at Less inner vector.1
-  close ← mark_at Greater of.1
-  Ok (types.Vector vector.0.start of.0, close.1)
+  element ← behind_at Less inner vector.1
+  close ← mark_at Greater element.1
+  Ok (types.Vector vector.0.start element.0, close.1)
 
 unfoldable pub map_at : (List Token → Read TypeTree) → List Token → Read TypeTree
 map_at inner tokens = do
@@ -241,10 +241,10 @@ member_end_at tokens = do
 unfoldable pub member_at : ℕ → List Token → Read MemberTree
 member_at room tokens = do
   tag ← place_at kinds.Number tokens
-  require ← means_at requirement_of tag.1
-  typed ← typed_at room require.1
+  requirement ← means_at requirement_of tag.1
+  typed ← typed_at room requirement.1
   end ← member_end_at typed.1
-  Ok (record { tag = tag.0; require = require.0.1; typed = typed.0; array = end.0.0; default = end.0.1 }, end.1)
+  Ok (record { tag = tag.0; requirement = requirement.0.1; typed = typed.0; array = end.0.0; default = end.0.1 }, end.1)
 
 -- a word, ident "{"
 unfoldable pub heading_at : Keyword → List Token → Read Span
@@ -306,9 +306,9 @@ names_at tokens = until_at CloseBracket name_behind_at tokens
 unfoldable pub key_at : List Token → Read DeclTree
 key_at tokens = do
   word ← one_at (kinds.Keyword words.Key) tokens
-  of ← behind_at OpenBracket (place_at kinds.Ident) word.1
-  members ← names_at of.1
-  Ok (decls.Key (record { of = of.0; members = members.0 }), members.1)
+  struct_name ← behind_at OpenBracket (place_at kinds.Ident) word.1
+  members ← names_at struct_name.1
+  Ok (decls.Key (record { struct_name = struct_name.0; members = members.0 }), members.1)
 
 unfoldable pub param_at : ℕ → List Token → Read ParamTree
 param_at room tokens = do

@@ -1,5 +1,5 @@
 -- Tokens that mean something by themselves (docs/IDL.md, "Grammar").
-use Rattle.std.specs.Prelude.{Bool, true, false, Option, Some, None}
+use Rattle.std.specs.Prelude.{Option, Some, None}
 use Rattle.idl_parse.specs.declared.keyword.Keyword.TheVariants as words
 use Rattle.idl_parse.specs.declared.kind.Kind.{Kind}
 use Rattle.idl_parse.specs.declared.kind.Kind.TheVariants.{Keyword, Number, Fraction, Text}
@@ -7,8 +7,11 @@ use Rattle.idl_parse.specs.declared.span.Span.{Span}
 use Rattle.idl_parse.specs.declared.token.Token.{Token}
 use Rattle.idl_parse.specs.declared.tree.literal.LiteralWord.{LiteralWord}
 use Rattle.idl_parse.specs.declared.tree.literal.LiteralWord.TheVariants as forms
+use Rattle.idl_parse.specs.declared.tree.member.Requirement.{Requirement}
+use Rattle.idl_parse.specs.declared.tree.member.Requirement.TheVariants as requirements
 use Rattle.idl_parse.specs.declared.tree.type_tree.BasicType.{BasicType}
 use Rattle.idl_parse.specs.declared.tree.type_tree.BasicType.TheVariants as basics
+use Rattle.idl_parse.specs.declared.tree.type_tree.ScopedName.{ScopedName}
 
 -- the bytes of a token
 abbrev pub span : Token → Span
@@ -34,9 +37,9 @@ unsigned_of (Keyword words.Int) = Some basics.UnsignedInt
 unsigned_of _ = None
 
 -- "require" | "optional"
-abbrev pub requirement_of : Kind → Option Bool
-requirement_of (Keyword words.Require) = Some true
-requirement_of (Keyword words.Optional) = Some false
+abbrev pub requirement_of : Kind → Option Requirement
+requirement_of (Keyword words.Require) = Some requirements.Require
+requirement_of (Keyword words.Optional) = Some requirements.Optional
 requirement_of _ = None
 
 -- number | fraction | text | "true" | "false"
@@ -47,3 +50,8 @@ literal_of Text = Some forms.Text
 literal_of (Keyword words.True) = Some forms.True
 literal_of (Keyword words.False) = Some forms.False
 literal_of _ = None
+
+-- the name that stands alone, or after `::`
+abbrev pub scoped_name : Span → Option Span → ScopedName
+scoped_name first None = record { scope = None; name = first }
+scoped_name first (Some second) = record { scope = Some first; name = second }

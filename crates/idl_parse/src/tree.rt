@@ -11,6 +11,6 @@ mod type_tree;
 pub use decl::{ConstTree, DeclTree, EnumItem, EnumTree, InterfaceTree, KeyTree, StructTree};
 pub use func::{FuncTree, ParamTree};
 pub use literal::{Literal, LiteralWord};
-pub use member::{ArrayLen, MemberTree};
+pub use member::{ArrayLen, MemberTree, Requirement};
 pub use module::{Entry, ModuleTree};
 pub use type_tree::{BasicType, ScopedName, TypeTree, TypedName};

@@ -16,13 +16,13 @@ fn word<'a>(text: &'a [u8], place: Span) -> &'a str {
 }
 
 fn name_of(alloc: Global, text: &[u8], name: &ScopedName) -> Result<String, AllocError> {
-    let first = word(text, name.first);
-    match name.second {
-        Some(second) => {
-            let second = word(text, second);
-            format!(in alloc; "{first}::{second}")
+    let last = word(text, name.name);
+    match name.scope {
+        Some(scope) => {
+            let scope = word(text, scope);
+            format!(in alloc; "{scope}::{last}")
         }
-        None => String::from_str(alloc, first),
+        None => String::from_str(alloc, last),
     }
 }
 
@@ -30,9 +30,9 @@ fn type_of(alloc: Global, text: &[u8], ty: &TypeTree) -> Result<String, AllocErr
     match ty {
         TypeTree::Basic { basic, .. } => format!(in alloc; "{basic:?}"),
         TypeTree::Named(name) => name_of(alloc, text, name),
-        TypeTree::Vector { of, .. } => {
-            let of = type_of(alloc, text, of.get())?;
-            format!(in alloc; "vector<{of}>")
+        TypeTree::Vector { element, .. } => {
+            let element = type_of(alloc, text, element.get())?;
+            format!(in alloc; "vector<{element}>")
         }
         TypeTree::Map { key, value, .. } => {
             let key = type_of(alloc, text, key.get())?;
@@ -74,10 +74,9 @@ fn array_of(alloc: Global, text: &[u8], array: &Option<ArrayLen>) -> Result<Stri
 
 fn member_of(alloc: Global, text: &[u8], member: &MemberTree) -> Result<String, AllocError> {
     let tag = word(text, member.tag);
-    let need = if member.require {
-        "require"
-    } else {
-        "optional"
+    let need = match member.requirement {
+        Requirement::Require => "require",
+        Requirement::Optional => "optional",
     };
     let typed = typed_of(alloc, text, &member.typed)?;
     let array = array_of(alloc, text, &member.array)?;
@@ -115,8 +114,8 @@ fn enum_of(alloc: Global, text: &[u8], tree: &EnumTree) -> Result<String, AllocE
 }
 
 fn key_of(alloc: Global, text: &[u8], tree: &KeyTree) -> Result<String, AllocError> {
-    let of = word(text, tree.of);
-    let mut all = format!(in alloc; "key {of}[")?;
+    let struct_name = word(text, tree.struct_name);
+    let mut all = format!(in alloc; "key {struct_name}[")?;
     for member in tree.members.as_slice() {
         all.push_str(word(text, *member))?;
         all.push_str(",")?;

@@ -5,13 +5,15 @@ use Rattle.idl_parse.specs.Grammar.{Mark, Place, Ident, Scoped, Array, LiteralOf
 use Rattle.idl_parse.specs.KindSteps.{same_kind, holds}
 use Rattle.idl_parse.specs.ReadSteps.{place_at, second_at, scoped_at, array_at, named_literal_at, word_literal_at, literal_at, default_at, basic_at, unsigned_at, named_at, flat_at}
 use Rattle.idl_parse.specs.Rules.{Gives, ◌⟫◌, Means, Either}
-use Rattle.idl_parse.specs.Words.{span, basic_of, unsigned_of, requirement_of, literal_of}
+use Rattle.idl_parse.specs.Words.{span, basic_of, unsigned_of, requirement_of, literal_of, scoped_name}
 use Rattle.idl_parse.specs.declared.keyword.Keyword.TheVariants as words
 use Rattle.idl_parse.specs.declared.kind.Kind.{Kind}
 use Rattle.idl_parse.specs.declared.kind.Kind.TheVariants as kinds
 use Rattle.idl_parse.specs.declared.sign.Sign.TheVariants.{OpenBracket, CloseBracket, Equals, PathSep}
 use Rattle.idl_parse.specs.declared.tree.literal.Literal.TheVariants as literals
 use Rattle.idl_parse.specs.declared.tree.literal.LiteralWord.TheVariants as forms
+use Rattle.idl_parse.specs.declared.tree.member.Requirement.{Requirement}
+use Rattle.idl_parse.specs.declared.tree.member.Requirement.TheVariants as requirements
 use Rattle.idl_parse.specs.declared.tree.type_tree.BasicType.TheVariants as basics
 use Rattle.idl_parse.specs.declared.tree.type_tree.TypeTree.TheVariants as types
 use Rattle.idl_parse.proofs.Parsing.Choice.{one_kind}
@@ -85,18 +87,18 @@ unsigned_meaning = record { among = unsigned_are; keeps_open = unsigned_flat; so
 abbrev pub requirement_words : List Kind
 requirement_words = kinds.Keyword words.Require ∷ kinds.Keyword words.Optional ∷ []
 
-requirements_are : (kind : Kind) (x : Bool) → requirement_of kind ≡ Some x → holds kind requirement_words ≡ true
+requirements_are : (kind : Kind) (x : Requirement) → requirement_of kind ≡ Some x → holds kind requirement_words ≡ true
 unfolding holds same_kind
 requirements_are (kinds.Keyword words.Require) x is = refl
 requirements_are (kinds.Keyword words.Optional) x is = refl
 requirements_are _ x is = cc
 
-pub requirements_flat : (kind : Kind) (x : Bool) (a : ℕ) → requirement_of kind ≡ Some x → behind kind a ≡ a
+pub requirements_flat : (kind : Kind) (x : Requirement) (a : ℕ) → requirement_of kind ≡ Some x → behind kind a ≡ a
 requirements_flat (kinds.Keyword word) x a is = refl
 requirements_flat _ x a is = cc
 
 pub requirement_meaning : Meaning requirement_of requirement_words
-requirement_meaning = record { among = requirements_are; keeps_open = requirements_flat; some_kind = kinds.Keyword words.Require; some_value = true; some_means = refl }
+requirement_meaning = record { among = requirements_are; keeps_open = requirements_flat; some_kind = kinds.Keyword words.Require; some_value = requirements.Require; some_means = refl }
 
 module _ (k n limit a : ℕ) (within : a < limit) where
   pub place : (kind : Kind) → behind kind a ≡ a → Reads k n limit a a (single (kind ∷ [])) (Place kind) (λ m. place_at kind)
@@ -112,7 +114,7 @@ module _ (k n limit a : ℕ) (within : a < limit) where
 
   pub scoped : Reads k n limit a a (one_kind kinds.Ident (kinds.Sign PathSep ∷ [])) Scoped (λ m. scoped_at)
   unfolding scoped_at holds same_kind
-  scoped = let r = next refl name (λ first. next refl (maybe second) (λ second. done (record { first = first; second = second }))) in r
+  scoped = let r = next refl name (λ first. next refl (maybe second) (λ second. done (scoped_name first second))) in r
 
   pub array : Reads k n limit a a (one_kind (kinds.Sign OpenBracket) []) Array (λ m. array_at)
   unfolding array_at

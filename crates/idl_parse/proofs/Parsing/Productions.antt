@@ -58,10 +58,10 @@ member_end k n =
 member : (k n : ℕ) → AtTop k n (item_shape (kinds.Number ∷ []) (kinds.Sign PathSep ∷ kinds.Sign Equals ∷ kinds.Sign OpenBracket ∷ [])) Member member_at
 unfolding member_at holds same_kind
 member k n =
-    let r = next refl (spot k n kinds.Number refl) (λ tag. next refl (means k (suc n) (suc n) 0 requirement_of requirement_words requirement_meaning (omega arith)) (λ require.
-    next refl (typed k n) (λ typed. related (paired_there (Maybe Array) (Maybe (Mark Equals ⟫ λ _. LiteralOf)) (λ array default. record { tag = tag; require = require.1; typed = typed; array = array; default = default }))
-    (paired_back (Maybe Array) (Maybe (Mark Equals ⟫ λ _. LiteralOf)) (λ array default. record { tag = tag; require = require.1; typed = typed; array = array; default = default }))
-    (next refl (member_end k n) (λ end. done (record { tag = tag; require = require.1; typed = typed; array = end.0; default = end.1 }))))))
+    let r = next refl (spot k n kinds.Number refl) (λ tag. next refl (means k (suc n) (suc n) 0 requirement_of requirement_words requirement_meaning (omega arith)) (λ requirement.
+    next refl (typed k n) (λ typed. related (paired_there (Maybe Array) (Maybe (Mark Equals ⟫ λ _. LiteralOf)) (λ array default. record { tag = tag; requirement = requirement.1; typed = typed; array = array; default = default }))
+    (paired_back (Maybe Array) (Maybe (Mark Equals ⟫ λ _. LiteralOf)) (λ array default. record { tag = tag; requirement = requirement.1; typed = typed; array = array; default = default }))
+    (next refl (member_end k n) (λ end. done (record { tag = tag; requirement = requirement.1; typed = typed; array = end.0; default = end.1 }))))))
     in r
 
 pub ended_member : (k n : ℕ) → AtTop k n (item_shape (kinds.Number ∷ []) []) (λ room. Member room ⟫ λ x. Mark Semicolon ⟫ λ _. Gives x) (λ m. ended_at (member_at m))
@@ -111,9 +111,9 @@ names k n = until CloseBracket (kinds.Sign Comma ∷ []) [] (λ room. Mark Comma
 key : (k n : ℕ) → AtTop k n (one_kind (kinds.Keyword words.Key) []) (λ room. Key) (λ m. key_at)
 unfolding key_at holds same_kind
 key k n =
-    let r = next refl (token k n (kinds.Keyword words.Key) refl) (λ _. regroup (next refl (next refl (token k n (kinds.Sign OpenBracket) refl) (λ _. spot k n kinds.Ident refl)) (λ of.
-    related (closed_there (Many (Mark Comma ⟫ λ _. Ident)) (Mark CloseBracket) (λ members. decls.Key (record { of = of; members = members }))) (closed_back (Many (Mark Comma ⟫ λ _. Ident)) (Mark CloseBracket) (λ members. decls.Key (record { of = of; members = members })))
-    (next refl (names k n) (λ members. done (decls.Key (record { of = of; members = members }))))))) in r
+    let r = next refl (token k n (kinds.Keyword words.Key) refl) (λ _. regroup (next refl (next refl (token k n (kinds.Sign OpenBracket) refl) (λ _. spot k n kinds.Ident refl)) (λ struct_name.
+    related (closed_there (Many (Mark Comma ⟫ λ _. Ident)) (Mark CloseBracket) (λ members. decls.Key (record { struct_name = struct_name; members = members }))) (closed_back (Many (Mark Comma ⟫ λ _. Ident)) (Mark CloseBracket) (λ members. decls.Key (record { struct_name = struct_name; members = members })))
+    (next refl (names k n) (λ members. done (decls.Key (record { struct_name = struct_name; members = members }))))))) in r
 
 -- ---- functions
 

@@ -41,8 +41,8 @@ module _ (k n limit a : ℕ) (within : a < limit) (Inner : Rel TypeTree) (inner 
   unfolding vector_at holds same_kind
   vector =
       let r = next refl (one k n limit a a (kinds.Keyword words.Vector) within refl) (λ vector. regroup (next_where refl opening
-      (λ of. next_core refl (one_core (kinds.Sign Greater)) (λ _. done_core (types.Vector vector.start of)))
-      (λ of ts mid lt e. next refl (one k n limit (suc a) a (kinds.Sign Greater) (room_behind ts of mid e) refl) (λ _. done (types.Vector vector.start of))))) in r
+      (λ element. next_core refl (one_core (kinds.Sign Greater)) (λ _. done_core (types.Vector vector.start element)))
+      (λ element ts mid lt e. next refl (one k n limit (suc a) a (kinds.Sign Greater) (room_behind ts element mid e) refl) (λ _. done (types.Vector vector.start element))))) in r
 
   map : Reads k n limit a a (one_kind (kinds.Keyword words.Map) []) (MapOf Inner) (λ m. map_at (inner m))
   unfolding map_at holds same_kind
@@ -125,7 +125,7 @@ completed (kinds.Keyword words.Vector) start end is =
 completed (kinds.Keyword words.Map) start end is =
     by_two _ (sign Less ∷ word words.Int ∷ sign Comma ∷ word words.Int ∷ sign Greater ∷ []) (types.Map start (types.Basic 0 basics.Int) (types.Basic 0 basics.Int)) (λ m tail free. refl)
 completed kinds.Ident start end is =
-    by_two _ [] (types.Named (record { first = record { start = start; end = end }; second = None }))
+    by_two _ [] (types.Named (record { scope = None; name = record { start = start; end = end } }))
     (λ m tail free. rw (not_begun tail free) refl)
   where
     not_begun : (tail : List Token) → (starts (kinds.Sign PathSep ∷ []) tail ≡ true → ⊥) → begins (kinds.Sign PathSep) tail ≡ false

@@ -23,7 +23,7 @@ listed {E = E} r =
 module _ (text : List ℕ) (depth limit : ℕ) where
   member : Walks text limit 0 0 (Member depth) (Member limit) (MemberIn text)
   member =
-      after (place kinds.Number refl) (λ tag. after (means requirement_of (λ kind x is. requirements_flat kind x 0 is)) (λ require. after (typed text depth limit) (λ typed. after (maybe array) (λ array.
+      after (place kinds.Number refl) (λ tag. after (means requirement_of (λ kind x is. requirements_flat kind x 0 is)) (λ requirement. after (typed text depth limit) (λ typed. after (maybe array) (λ array.
       after (maybe (after (one (kinds.Sign Equals) refl) (λ _. saying (λ y e _. e) literal))) (λ default.
       gives (λ d a t _ n. record { tag = n; typed = t; array = a; default = d }))))))
 
@@ -53,7 +53,7 @@ module _ (text : List ℕ) (depth limit : ℕ) where
 
   key : Walks text limit 0 0 Key Key (DeclIn text)
   key =
-      after (one (kinds.Keyword words.Key) refl) (λ _. after (one (kinds.Sign OpenBracket) refl) (λ _. after (place kinds.Ident refl) (λ of.
+      after (one (kinds.Keyword words.Key) refl) (λ _. after (one (kinds.Sign OpenBracket) refl) (λ _. after (place kinds.Ident refl) (λ struct_name.
       after (many (after (one (kinds.Sign Comma) refl) (λ _. saying (λ y e _. e) (place kinds.Ident refl)))) (λ members.
       after (one (kinds.Sign CloseBracket) refl) (λ _. gives (λ _ ms n _ _. (n, ms)))))))
 

@@ -1,14 +1,15 @@
 -- Names, literals and types, token by token (`Walks`).
-use Rattle.std.proofs.Common.{◌≡◌, ℕ, zero, suc, ◌-◌, ◌<◌, Some, List, [], ◌∷◌, ◌++◌, length, refl, ap, arith, subst}
+use Rattle.std.proofs.Common.{◌≡◌, ℕ, zero, suc, ◌-◌, ◌<◌, Option, Some, None, List, [], ◌∷◌, ◌++◌, length, refl, ap, arith, subst}
 use Rattle.idl_parse.specs.Depth.{Shallow}
 use Rattle.idl_parse.specs.Grammar.{Scoped, Array, LiteralOf, VectorOf, MapOf, UnsignedOf, NamedOf, BasicOf, TypeOf, Typed}
-use Rattle.idl_parse.specs.Places.{StandsAt, ScopedIn, kind_of, LiteralIn, TypeIn, basic, named, vector, map, TypedIn, ArrayIn}
+use Rattle.idl_parse.specs.Places.{StandsAt, IfThere, NameIn, ScopedIn, kind_of, LiteralIn, TypeIn, basic, named, vector, map, TypedIn, ArrayIn}
 use Rattle.idl_parse.specs.Rules.{Rel, Either}
-use Rattle.idl_parse.specs.Words.{span, basic_of, unsigned_of, literal_of}
+use Rattle.idl_parse.specs.Words.{span, basic_of, unsigned_of, literal_of, scoped_name}
 use Rattle.idl_parse.specs.declared.keyword.Keyword.TheVariants as words
 use Rattle.idl_parse.specs.declared.kind.Kind.{Kind}
 use Rattle.idl_parse.specs.declared.kind.Kind.TheVariants as kinds
 use Rattle.idl_parse.specs.declared.sign.Sign.TheVariants.{OpenBracket, CloseBracket, Less, Greater, Comma, PathSep}
+use Rattle.idl_parse.specs.declared.span.Span.{Span}
 use Rattle.idl_parse.specs.declared.token.Token.{Token}
 use Rattle.idl_parse.specs.declared.tree.literal.LiteralWord.{LiteralWord}
 use Rattle.idl_parse.specs.declared.tree.type_tree.TypeTree.{TypeTree}
@@ -17,8 +18,12 @@ use Rattle.idl_parse.proofs.Parsing.Readers.{Begun, has_some, has_none}
 use Rattle.idl_parse.proofs.Parsing.TypeLaws.{type_shape, type_laws}
 use Rattle.idl_parse.proofs.Trees.Walks.{Walks, after, gives, one, means, either, maybe, saying, place}
 
+scoped_in : (text : List ℕ) (first : Span) (second : Option Span) → NameIn text first → IfThere (NameIn text) second → ScopedIn text (scoped_name first second)
+scoped_in text first None f s = (tt, f)
+scoped_in text first (Some name) f s = (f, s)
+
 pub scoped : {text : List ℕ} {limit a : ℕ} → Walks text limit a a Scoped Scoped (ScopedIn text)
-scoped = after (place kinds.Ident refl) (λ first. after (maybe (after (one (kinds.Sign PathSep) refl) (λ _. saying (λ s e _. e) (place kinds.Ident refl)))) (λ second. gives (λ s f. (f, s))))
+scoped {text = text} = after (place kinds.Ident refl) (λ first. after (maybe (after (one (kinds.Sign PathSep) refl) (λ _. saying (λ s e _. e) (place kinds.Ident refl)))) (λ second. gives (λ s f. scoped_in text first second f s)))
 
 pub array : {text : List ℕ} {limit a : ℕ} → Walks text limit a a Array Array (ArrayIn text)
 array = after (one (kinds.Sign OpenBracket) refl) (λ bracket. after (place kinds.Number refl) (λ number. after (one (kinds.Sign CloseBracket) refl) (λ _. gives (λ _ e _. e))))
@@ -55,7 +60,7 @@ module _ (text : List ℕ) (limit a : ℕ) (Inner Inner' : Rel TypeTree)
     (inside : Walks text limit (suc a) (suc a) Inner Inner' (TypeIn text)) where
   vectors : Walks text limit a a (VectorOf Inner) (VectorOf Inner') (TypeIn text)
   vectors =
-      after (one (kinds.Keyword words.Vector) refl) (λ word. after (one (kinds.Sign Less) refl) (λ _. after inside (λ of. after (one (kinds.Sign Greater) refl) (λ _.
+      after (one (kinds.Keyword words.Vector) refl) (λ word. after (one (kinds.Sign Less) refl) (λ _. after inside (λ element. after (one (kinds.Sign Greater) refl) (λ _.
       gives (λ _ e _ _. vector refl e)))))
 
   maps : Walks text limit a a (MapOf Inner) (MapOf Inner') (TypeIn text)

@@ -102,9 +102,15 @@ fn key_decl(alloc: Global, tokens: &[Token]) -> Result<(DeclTree, &[Token]), Hal
     ensures { Returns (λ x. (x.0, x.1.now)) result (key_at tokens.now) }
 {
     let (_, rest) = one(Kind::Keyword(Keyword::Key), tokens)?;
-    let (of, rest) = keyed(rest)?;
+    let (struct_name, rest) = keyed(rest)?;
     let (members, rest) = names(alloc, rest)?;
-    Ok((DeclTree::Key(KeyTree { of, members }), rest))
+    Ok((
+        DeclTree::Key(KeyTree {
+            struct_name,
+            members,
+        }),
+        rest,
+    ))
 }
 
 /// `interface ident { { func ; } }`

@@ -15,24 +15,24 @@ use crate::kind::Kind;
 use crate::parse_fault::ParseWhy;
 use crate::sign::Sign;
 use crate::token::Token;
-use crate::tree::{ArrayLen, Literal, MemberTree};
+use crate::tree::{ArrayLen, Literal, MemberTree, Requirement};
 use std::alloc::Global;
 use tars_model::List;
 
 /// What a word says of a member.
-fn requirement_of(kind: Kind) -> Option<bool>
+fn requirement_of(kind: Kind) -> Option<Requirement>
     ensures { result ≡ requirement_of kind }
 {
     match kind {
-        Kind::Keyword(Keyword::Require) => Some(true),
-        Kind::Keyword(Keyword::Optional) => Some(false),
+        Kind::Keyword(Keyword::Require) => Some(Requirement::Require),
+        Kind::Keyword(Keyword::Optional) => Some(Requirement::Optional),
         _ => None,
     }
 }
 
 /// `require` or `optional`
 #[tactic(auto, unfolding(crate::specs::ReadSteps::means_at))]
-fn requirement(tokens: &[Token]) -> Result<((Token, bool), &[Token]), Halt<'_>>
+fn requirement(tokens: &[Token]) -> Result<((Token, Requirement), &[Token]), Halt<'_>>
     ensures { Returns (λ x. (x.0, x.1.now)) result (means_at requirement_of tokens.now) }
 {
     let [word, rest @ ..] = tokens else {
@@ -41,13 +41,13 @@ fn requirement(tokens: &[Token]) -> Result<((Token, bool), &[Token]), Halt<'_>>
             why: ParseWhy::Unexpected,
         });
     };
-    let Some(require) = requirement_of(word.kind) else {
+    let Some(requirement) = requirement_of(word.kind) else {
         return Err(Halt::At {
             left: tokens,
             why: ParseWhy::Unexpected,
         });
     };
-    Ok(((*word, require), rest))
+    Ok(((*word, requirement), rest))
 }
 
 fn maybe_array(tokens: &[Token]) -> Result<(Option<ArrayLen>, &[Token]), Halt<'_>>
@@ -85,13 +85,13 @@ fn member(alloc: Global, tokens: &[Token]) -> Result<(MemberTree, &[Token]), Hal
     ensures { Returns (λ x. (x.0, x.1.now)) result (member_at nesting_limit tokens.now) }
 {
     let (tag, rest) = place(Kind::Number, tokens)?;
-    let ((_, require), rest) = requirement(rest)?;
+    let ((_, requirement), rest) = requirement(rest)?;
     let (typed, rest) = typed(alloc, rest)?;
     let ((array, default), rest) = member_end(rest)?;
     Ok((
         MemberTree {
             tag,
-            require,
+            requirement,
             typed,
             array,
             default,

@@ -1,6 +1,6 @@
 ghost use Rattle.std.specs.Prelude.{◌≡◌};
 ghost use Rattle.idl_parse.specs.ReadSteps.{Returns, second_at, scoped_at, maybe_at, array_at, named_literal_at, word_literal_at, literal_at, default_at};
-ghost use Rattle.idl_parse.specs.Words.{literal_of};
+ghost use Rattle.idl_parse.specs.Words.{literal_of, scoped_name};
 ghost use Rattle.idl_parse.specs.declared.kind.Kind.TheVariants.{Sign as sign_kind};
 ghost use Rattle.idl_parse.specs.declared.sign.Sign.TheVariants.{PathSep as path_sep};
 
@@ -34,6 +34,22 @@ fn maybe_second(tokens: &[Token]) -> Result<(Option<Span>, &[Token]), Halt<'_>>
     Ok((Some(name), rest))
 }
 
+/// The name that stands alone, or after `::`.
+fn scoped_name(first: Span, second: Option<Span>) -> ScopedName
+    ensures { result ≡ scoped_name first second }
+{
+    match second {
+        Some(name) => ScopedName {
+            scope: Some(first),
+            name,
+        },
+        None => ScopedName {
+            scope: None,
+            name: first,
+        },
+    }
+}
+
 /// `ident [ :: ident ]`
 #[tactic(auto, unfolding(crate::specs::ReadSteps::scoped_at))]
 pub(super) fn scoped(tokens: &[Token]) -> Result<(ScopedName, &[Token]), Halt<'_>>
@@ -41,7 +57,7 @@ pub(super) fn scoped(tokens: &[Token]) -> Result<(ScopedName, &[Token]), Halt<'_
 {
     let (first, rest) = place(Kind::Ident, tokens)?;
     let (second, rest) = maybe_second(rest)?;
-    Ok((ScopedName { first, second }, rest))
+    Ok((scoped_name(first, second), rest))
 }
 
 /// `[ number ]`

@@ -181,13 +181,13 @@ fn vector(alloc: Global, room: u8, tokens: &[Token]) -> Result<(TypeTree, &[Toke
     ensures { Returns (λ x. (x.0, x.1.now)) result (vector_at (type_at room) tokens.now) }
 {
     let (vector, rest) = one(Kind::Keyword(Keyword::Vector), tokens)?;
-    let (of, rest) = type_behind(alloc, Sign::Less, room, rest)?;
+    let (element, rest) = type_behind(alloc, Sign::Less, room, rest)?;
     let (_, rest) = one(Kind::Sign(Sign::Greater), rest)?;
-    let of = Boxed::new(alloc, of)?;
+    let element = Boxed::new(alloc, element)?;
     Ok((
         TypeTree::Vector {
             at: vector.start,
-            of,
+            element,
         },
         rest,
     ))

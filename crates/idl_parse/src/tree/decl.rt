@@ -33,8 +33,8 @@ pub struct ConstTree {
 /// The members by which structs of a name are sorted.
 #[derive(Drop)]
 pub struct KeyTree {
-    /// The struct's name, and behind it the members' names.
-    pub of: Span,
+    pub struct_name: Span,
+    /// The members' names.
     pub members: List<Span>,
 }
 

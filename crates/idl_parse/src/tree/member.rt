@@ -8,11 +8,18 @@ pub struct ArrayLen {
     pub length: Span,
 }
 
+/// Whether a member must be there.
+#[derive(Clone, Copy, PartialEq, Eq)]
+pub enum Requirement {
+    Require,
+    Optional,
+}
+
 /// A member of a struct.
 #[derive(Drop)]
 pub struct MemberTree {
     pub tag: Span,
-    pub require: bool,
+    pub requirement: Requirement,
     pub typed: TypedName,
     pub array: Option<ArrayLen>,
     pub default: Option<Literal>,

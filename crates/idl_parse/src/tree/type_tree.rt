@@ -18,11 +18,11 @@ pub enum BasicType {
     UnsignedInt,
 }
 
-/// `first`, or `first::second`.
+/// `name`, or `scope::name`, where the scope is a module or an enum.
 #[derive(Clone, Copy, PartialEq, Eq)]
 pub struct ScopedName {
-    pub first: Span,
-    pub second: Option<Span>,
+    pub scope: Option<Span>,
+    pub name: Span,
 }
 
 /// A type as it is written. `at` is where its first token begins.
@@ -34,7 +34,7 @@ pub enum TypeTree {
     },
     Vector {
         at: u32,
-        of: Boxed<TypeTree>,
+        element: Boxed<TypeTree>,
     },
     Map {
         at: u32,
