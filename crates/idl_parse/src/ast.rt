@@ -6,7 +6,7 @@ ghost use Rattle.idl_parse.specs.Grammar.{nesting_limit, IsFile};
 ghost use Rattle.idl_parse.specs.Faults.{IsFault};
 ghost use Rattle.idl_parse.specs.Parsed.{IsFaultOf, IsRead, IsRefused, HasFault};
 ghost use Rattle.idl_parse.specs.Places.{EntryIn};
-ghost use Rattle.idl_parse.specs.Tokens.{Tokens as AreTokensOf};
+ghost use Rattle.idl_parse.specs.Tokens.{Tokens as TokensOf};
 ghost use Rattle.idl_parse.specs.declared.parse_fault.ParseWhy.{ParseWhy as Why};
 ghost use Rattle.idl_parse.specs.declared.token.Token.{Token as Found};
 ghost use Rattle.idl_parse.specs.declared.tree.module.Entry.{Entry as EntryTree};
@@ -103,7 +103,7 @@ fn fault_of(text: &[u8], left: &[Token], halt: Halt) -> ParseFault
 /// The file that the tokens of a text are, or where and why they are none.
 pub fn parse(alloc: Global, name: &str, text: &[u8], tokens: &[Token]) -> Result<Ast, ParseFault>
     requires short { length text.now < 2 ^ 32 }
-    requires tokens { AreTokensOf text.now tokens.now }
+    requires tokens { TokensOf text.now tokens.now }
     // What is read is derived by the grammar.
     ensures read { IfOk result (λ ast. IsFile nesting_limit tokens.now ast.entries) }
     // What the grammar derives is read, unless memory runs out.

@@ -6,7 +6,7 @@ use super::funcs::funcs;
 use super::halt::Halt;
 use super::items::{Item, until};
 use super::members::members;
-use super::names::default;
+use super::names::literal;
 use super::tokens::Tokens;
 use super::types::typed;
 use crate::keyword::Keyword;
@@ -49,13 +49,14 @@ fn enum_decl(alloc: Global, tokens: &mut Tokens<'_>) -> Result<DeclTree, Halt>
 }
 
 /// `const type ident = literal`
-#[tactic(auto, unfolding(crate::specs::ReadSteps::const_at))]
+#[tactic(auto, unfolding(crate::specs::ReadSteps::const_at, crate::specs::ReadSteps::default_at))]
 fn const_decl(alloc: Global, tokens: &mut Tokens<'_>) -> Result<DeclTree, Halt>
     ensures { Reads result tokens.new (const_at nesting_limit tokens.old) }
 {
     tokens.expect(Kind::Keyword(Keyword::Const))?;
     let typed = typed(alloc, tokens)?;
-    let value = default(tokens)?;
+    tokens.expect(Kind::Sign(Sign::Equals))?;
+    let value = literal(tokens)?;
     Ok(DeclTree::Const(ConstTree { typed, value }))
 }
 

@@ -5,7 +5,7 @@ ghost use Rattle.idl_parse.specs.Words.{requirement_of};
 
 use super::halt::Halt;
 use super::items::{Item, until};
-use super::names::{array, default};
+use super::names::{array, literal};
 use super::tokens::Tokens;
 use super::types::typed;
 use crate::keyword::Keyword;
@@ -39,7 +39,7 @@ fn requirement(tokens: &mut Tokens<'_>) -> Result<(Token, bool), Halt>
 }
 
 /// `[ array ] [ = literal ]`
-#[tactic(auto, unfolding(crate::specs::ReadSteps::member_end_at))]
+#[tactic(auto, unfolding(crate::specs::ReadSteps::member_end_at, crate::specs::ReadSteps::default_at))]
 fn member_end(tokens: &mut Tokens<'_>) -> Result<(Option<ArrayLen>, Option<Literal>), Halt>
     ensures { Reads result tokens.new (member_end_at tokens.old) }
 {
@@ -48,8 +48,8 @@ fn member_end(tokens: &mut Tokens<'_>) -> Result<(Option<ArrayLen>, Option<Liter
     } else {
         None
     };
-    let default = if tokens.sees(Kind::Sign(Sign::Equals)) {
-        Some(default(tokens)?)
+    let default = if tokens.eat(Kind::Sign(Sign::Equals)) {
+        Some(literal(tokens)?)
     } else {
         None
     };

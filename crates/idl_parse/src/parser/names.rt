@@ -1,5 +1,5 @@
 ghost use Rattle.std.specs.Prelude.{◌≡◌};
-ghost use Rattle.idl_parse.specs.ReadSteps.{Reads, scoped_at, array_at, word_literal_at, literal_at, default_at};
+ghost use Rattle.idl_parse.specs.ReadSteps.{Reads, scoped_at, array_at, word_literal_at, literal_at};
 ghost use Rattle.idl_parse.specs.Words.{literal_of};
 
 use super::halt::Halt;
@@ -57,15 +57,6 @@ pub(super) fn literal(tokens: &mut Tokens<'_>) -> Result<Literal, Halt>
     } else {
         word_literal(tokens)
     }
-}
-
-/// `= literal`
-#[tactic(auto, unfolding(crate::specs::ReadSteps::default_at))]
-pub(super) fn default(tokens: &mut Tokens<'_>) -> Result<Literal, Halt>
-    ensures { Reads result tokens.new (default_at tokens.old) }
-{
-    tokens.expect(Kind::Sign(Sign::Equals))?;
-    literal(tokens)
 }
 
 #[tactic(auto, unfolding(crate::specs::ReadSteps::word_literal_at, crate::specs::ReadSteps::means_at))]
