@@ -1,6 +1,7 @@
 -- For the proofs: how tokens are read from left to right, as the functions of the parser do. Each gives a tree with
 -- the tokens after it, or where and why reading stops.
 use Rattle.std.specs.Prelude.{◌≡◌, ◌<◌, ℕ, zero, suc, Bool, true, false, if◌then◌else◌, Option, Some, None, Result, Ok, Err, List, [], ◌∷◌, ◌++◌, length}
+use Rattle.facts.specs.ResultSteps.{◌>>=◌}
 use Rattle.idl_parse.specs.KindSteps.{same_kind, begins}
 use Rattle.idl_parse.specs.Words.{span, basic_of, unsigned_of, requirement_of, literal_of}
 use Rattle.idl_parse.specs.Grammar.{start_of, is_there}
@@ -43,11 +44,6 @@ Read A = Result (A × List Token) Stop
 -- what is read takes a token
 abbrev pub Shrinks : {A : Type 0} → (List Token → Read A) → Type 0
 Shrinks {A} f = (ts : List Token) (x : A) (rest : List Token) → f ts ≡ Ok (x, rest) → length rest < length ts
-
-infixl 10 ◌>>=◌
-abbrev pub ◌>>=◌ : {A B : Type 0} → Result A Stop → (A → Result B Stop) → Result B Stop
-(Ok x) >>= f = f x
-(Err stop) >>= f = Err stop
 
 -- the reading that stops in this way where these tokens are left, unless memory ran out
 abbrev pub Fails : {A : Type 0} → Halt → List Token → Result A Stop → Type 0

@@ -1,7 +1,8 @@
 -- The loop over a file's entries: what it has so far, and what is left gives, are the whole.
 use Rattle.std.proofs.Common.{◌≡◌, Result, Ok, Err, List, [], ◌∷◌, ◌++◌, refl, sym, ap, ◌∙◌, append_assoc, length, arith}
 use Rattle.std.proofs.lemmas.List.{append-nil}
-use Rattle.idl_parse.specs.ReadSteps.{Stop, ◌>>=◌, Fails, entry_at, file_at}
+use Rattle.facts.specs.ResultSteps.{◌>>=◌}
+use Rattle.idl_parse.specs.ReadSteps.{Stop, Fails, entry_at, file_at}
 use Rattle.idl_parse.specs.declared.parser.halt.Halt.{Halt}
 use Rattle.idl_parse.specs.declared.token.Token.{Token}
 use Rattle.idl_parse.specs.declared.tree.module.Entry.{Entry}

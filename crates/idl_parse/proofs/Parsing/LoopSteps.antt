@@ -1,8 +1,9 @@
 -- A loop reads on what is left: what it has so far, and what is left gives, are the whole.
 use Rattle.std.proofs.Common.{◌≡◌, true, false, Result, Ok, Err, List, [], ◌∷◌, ◌++◌, refl, sym, ap, ◌∙◌, append_assoc}
 use Rattle.std.proofs.lemmas.List.{append-nil}
+use Rattle.facts.specs.ResultSteps.{◌>>=◌}
 use Rattle.idl_parse.specs.KindSteps.{begins}
-use Rattle.idl_parse.specs.ReadSteps.{Stop, Read, ◌>>=◌, Fails, mark_at, with_front, until_at}
+use Rattle.idl_parse.specs.ReadSteps.{Stop, Read, Fails, mark_at, with_front, until_at}
 use Rattle.idl_parse.specs.declared.kind.Kind.TheVariants as kinds
 use Rattle.idl_parse.specs.declared.parser.halt.Halt.{Halt}
 use Rattle.idl_parse.specs.declared.parser.halt.Halt.TheVariants as halts
