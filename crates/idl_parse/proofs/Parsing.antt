@@ -20,5 +20,6 @@ pub mod Rearranged
 pub mod Regroup
 pub mod Rooms
 pub mod Turns
+pub mod TokenSteps
 pub mod TypeLaws
 pub mod Until

@@ -1,5 +1,5 @@
 -- For the proofs: kinds of tokens by numbers, to tell them apart.
-use Rattle.std.specs.Prelude.{ℕ, ◌==◌, Bool, false, ◌||◌, List, [], ◌∷◌}
+use Rattle.std.specs.Prelude.{ℕ, ◌==◌, Bool, false, ◌||◌, List, [], ◌∷◌, Option, Some, None}
 use Rattle.idl_parse.specs.declared.keyword.Keyword.{Keyword}
 use Rattle.idl_parse.specs.declared.keyword.Keyword.TheVariants as words
 use Rattle.idl_parse.specs.declared.kind.Kind.{Kind}
@@ -64,6 +64,10 @@ same_kind a b = code_of a == code_of b
 unfoldable pub holds : Kind → List Kind → Bool
 holds kind [] = false
 holds kind (k ∷ ks) = same_kind kind k || holds kind ks
+
+unfoldable pub first_kind : List Token → Option Kind
+first_kind [] = None
+first_kind (t ∷ ts) = Some t.kind
 
 -- the first token is of the kind
 unfoldable pub begins : Kind → List Token → Bool

@@ -10,10 +10,10 @@ use Rattle.idl_parse.specs.declared.parser.halt.Halt.TheVariants as halts
 use Rattle.idl_parse.specs.declared.token.Token.{Token}
 use Rattle.idl_parse.specs.declared.tree.module.Entry.{Entry}
 
--- the fault of a halt, in a text of this length
-abbrev pub IsFaultOf : ℕ → Halt → ParseFault → Type 0
-IsFaultOf end (halts.At left why) fault = fault ≡ Bad (byte_of end left.now) why
-IsFaultOf end halts.Memory fault = fault ≡ Memory
+-- the fault of a halt where these tokens are left, in a text of this length
+abbrev pub IsFaultOf : ℕ → List Token → Halt → ParseFault → Type 0
+IsFaultOf end left (halts.Grammar why) fault = fault ≡ Bad (byte_of end left) why
+IsFaultOf end left halts.Memory fault = fault ≡ Memory
 
 -- these entries, or no memory
 abbrev pub IsRead : Result File ParseFault → List Entry → Type 0

@@ -1,6 +1,7 @@
 -- For the proofs: how tokens are read from left to right, as the functions of the parser do. Each gives a tree with
 -- the tokens after it, or where and why reading stops.
 use Rattle.std.specs.Prelude.{◌≡◌, ◌<◌, ℕ, zero, suc, Bool, true, false, if◌then◌else◌, Option, Some, None, Result, Ok, Err, List, [], ◌∷◌, ◌++◌, length}
+use Rattle.facts.specs.ResultSteps.{◌>>=◌}
 use Rattle.idl_parse.specs.KindSteps.{same_kind, begins}
 use Rattle.idl_parse.specs.Words.{span, basic_of, unsigned_of, requirement_of, literal_of, scoped_name}
 use Rattle.idl_parse.specs.Grammar.{start_of, is_there}
@@ -44,19 +45,35 @@ Read A = Result (A × List Token) Stop
 abbrev pub Shrinks : {A : Type 0} → (List Token → Read A) → Type 0
 Shrinks {A} f = (ts : List Token) (x : A) (rest : List Token) → f ts ≡ Ok (x, rest) → length rest < length ts
 
-infixl 10 ◌>>=◌
-abbrev pub ◌>>=◌ : {A B : Type 0} → Result A Stop → (A → Result B Stop) → Result B Stop
-(Ok x) >>= f = f x
-(Err stop) >>= f = Err stop
+-- the reading that stops in this way where these tokens are left, unless memory ran out
+abbrev pub Fails : {A : Type 0} → Halt → List Token → Result A Stop → Type 0
+Fails halts.Memory left read = Unit {0}
+Fails (halts.Grammar why) left read = read ≡ Err (record { left = left; why = why })
 
--- what a function returned, seen by view, is what reading gives, unless memory ran out
-abbrev pub Fails : {Y : Type 0} → Halt → Result Y Stop → Type 0
-Fails halts.Memory read = Unit {0}
-Fails (halts.At left why) read = read ≡ Err (record { left = left.now; why = why })
+-- what a function returned, and the tokens that it left, are what reading gives
+abbrev pub Reads : {A : Type 0} → Result A Halt → List Token → Read A → Type 0
+Reads (Ok x) after read = read ≡ Ok (x, after)
+Reads (Err e) after read = Fails e after read
 
-abbrev pub Returns : {X Y : Type 0} → (X → Y) → Result X Halt → Result Y Stop → Type 0
-Returns view (Ok x) read = read ≡ Ok (view x)
-Returns view (Err e) read = Fails e read
+-- the same where no tokens are left at the end
+abbrev pub ReadsAll : {A : Type 0} → Result A Halt → List Token → Result A Stop → Type 0
+ReadsAll (Ok x) after read = read ≡ Ok x
+ReadsAll (Err e) after read = Fails e after read
+
+-- where the first token is of the kind it is taken, else nothing
+abbrev pub Eats : Bool → List Token → Read Token → List Token → Type 0
+Eats true after read before = (t : Token) × (read ≡ Ok (t, after))
+Eats false after read before = after ≡ before
+
+-- the token that was taken, or the tokens as they were
+abbrev pub Takes : Option Token → List Token → Read Token → List Token → Type 0
+Takes (Some t) after read before = read ≡ Ok (t, after)
+Takes None after read before = after ≡ before
+
+-- the first token, or that there is none
+abbrev pub HasFirst : Result Token Halt → List Token → Type 0
+HasFirst (Ok t) tokens = (rest : List Token) × (tokens ≡ t ∷ rest)
+HasFirst (Err e) tokens = (tokens ≡ []) × (e ≡ halts.Grammar Unexpected)
 
 abbrev pub unexpected : {B : Type 0} → List Token → Result B Stop
 unexpected tokens = Err (record { left = tokens; why = Unexpected })
@@ -195,6 +212,14 @@ unfoldable pub type_with : (List Token → Read TypeTree) → List Token → Rea
 type_with inner tokens =
     if begins (kinds.Keyword words.Vector) tokens then vector_at inner tokens
     else (if begins (kinds.Keyword words.Map) tokens then map_at inner tokens else flat_at tokens)
+
+-- the same by the first token's kind
+abbrev pub type_of : Option Kind → (List Token → Read TypeTree) → List Token → Read TypeTree
+type_of (Some (kinds.Keyword words.Vector)) inner = vector_at inner
+type_of (Some (kinds.Keyword words.Map)) inner = map_at inner
+type_of (Some (kinds.Keyword words.Unsigned)) inner = unsigned_at
+type_of (Some kinds.Ident) inner = named_at
+type_of _ inner = basic_at
 
 unfoldable pub type_at : ℕ → List Token → Read TypeTree
 type_at zero = no_room_at
@@ -376,6 +401,14 @@ unfoldable pub decl_at : ℕ → List Token → Read DeclTree
 decl_at room tokens =
     if begins (kinds.Keyword words.Struct) tokens then struct_at room tokens
     else (if begins (kinds.Keyword words.Enum) tokens then enum_at tokens else other_decl_at room tokens)
+
+-- the same by the first token's kind
+abbrev pub decl_of : Option Kind → ℕ → List Token → Read DeclTree
+decl_of (Some (kinds.Keyword words.Struct)) room = struct_at room
+decl_of (Some (kinds.Keyword words.Enum)) room = enum_at
+decl_of (Some (kinds.Keyword words.Const)) room = const_at room
+decl_of (Some (kinds.Keyword words.Key)) room = key_at
+decl_of _ room = interface_at room
 
 unfoldable pub decls_at : ℕ → List Token → Read (List DeclTree)
 decls_at room tokens = until_at CloseBrace (ended_at (decl_at room)) tokens

@@ -6,7 +6,7 @@ ghost use Rattle.idl_parse.specs.Grammar.{nesting_limit, IsFile};
 ghost use Rattle.idl_parse.specs.Faults.{IsFault};
 ghost use Rattle.idl_parse.specs.Parsed.{IsFaultOf, IsRead, IsRefused, HasFault};
 ghost use Rattle.idl_parse.specs.Places.{EntryIn};
-ghost use Rattle.idl_parse.specs.Tokens.{Tokens};
+ghost use Rattle.idl_parse.specs.Tokens.{Tokens as TokensOf};
 ghost use Rattle.idl_parse.specs.declared.parse_fault.ParseWhy.{ParseWhy as Why};
 ghost use Rattle.idl_parse.specs.declared.token.Token.{Token as Found};
 ghost use Rattle.idl_parse.specs.declared.tree.module.Entry.{Entry as EntryTree};
@@ -15,6 +15,7 @@ use crate::includes::include_names;
 use crate::parse_fault::ParseFault;
 use crate::parser::file::file;
 use crate::parser::halt::Halt;
+use crate::parser::tokens::Tokens;
 use crate::token::Token;
 use crate::tree::Entry;
 use std::alloc::Global;
@@ -82,30 +83,27 @@ impl Ast {
 }
 
 /// What the parser's halt is for a user: the first byte of the tokens that are left, or the text's length.
-fn fault_of(text: &[u8], halt: Halt) -> ParseFault
+fn fault_of(text: &[u8], left: &[Token], halt: Halt) -> ParseFault
     requires { length text.now < 2 ^ 32 }
-    ensures { IsFaultOf (length text.now) halt.entry result }
+    ensures { IsFaultOf (length text.now) left.now halt result }
 {
-    match halt {
-        Halt::At {
-            left: [first, ..],
-            why,
-        } => ParseFault::Bad {
+    match (halt, left) {
+        (Halt::Grammar(why), [first, ..]) => ParseFault::Bad {
             at: first.start,
             why,
         },
-        Halt::At { left: [], why } => ParseFault::Bad {
+        (Halt::Grammar(why), []) => ParseFault::Bad {
             at: text.len() as u32,
             why,
         },
-        Halt::Memory => ParseFault::Memory,
+        (Halt::Memory, _) => ParseFault::Memory,
     }
 }
 
 /// The file that the tokens of a text are, or where and why they are none.
 pub fn parse(alloc: Global, name: &str, text: &[u8], tokens: &[Token]) -> Result<Ast, ParseFault>
     requires short { length text.now < 2 ^ 32 }
-    requires tokens { Tokens text.now tokens.now }
+    requires tokens { TokensOf text.now tokens.now }
     // What is read is derived by the grammar.
     ensures read { IfOk result (λ ast. IsFile nesting_limit tokens.now ast.entries) }
     // What the grammar derives is read, unless memory runs out.
@@ -117,9 +115,10 @@ pub fn parse(alloc: Global, name: &str, text: &[u8], tokens: &[Token]) -> Result
     ensures named { IfOk result (λ ast. ast.name ≡ name.now) }
     ensures kept { IfOk result (λ ast. ast.text ≡ text.now) }
 {
-    let entries = match file(alloc, tokens) {
+    let mut left = Tokens::new(tokens);
+    let entries = match file(alloc, &mut left) {
         Ok(entries) => entries,
-        Err(halt) => return Err(fault_of(text, halt)),
+        Err(halt) => return Err(fault_of(text, left.left(), halt)),
     };
     let includes = include_names(alloc, text, entries.as_slice())?;
     let name = Bytes8::from_slice(alloc, name.as_bytes())?;

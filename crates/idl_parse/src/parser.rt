@@ -1,5 +1,5 @@
-//! The parser: a function a production, which takes the tokens that are left and gives a tree with the
-//! tokens behind it.
+//! The parser: a function a production, which takes what it reads off the tokens that are left. After an error they
+//! begin with the token at fault.
 
 mod decls;
 mod enums;
@@ -9,5 +9,5 @@ pub(crate) mod halt;
 mod items;
 mod members;
 mod names;
-mod token;
+pub(crate) mod tokens;
 mod types;

@@ -6,7 +6,7 @@ use Rattle.idl_parse.specs.Rules.{Rel, Either}
 use Rattle.idl_parse.specs.declared.kind.Kind.{Kind}
 use Rattle.idl_parse.specs.declared.token.Token.{Token}
 use Rattle.idl_parse.proofs.Parsing.Heads.{starts_left, starts_right, apart, starts_apart, starts_same, starts_nothing, begins_is}
-use Rattle.idl_parse.proofs.Parsing.Readers.{Reader, halted, too_deep, Shape, head_of, starts, Begun, has_some, has_none, Fresh, some_more, no_more, Kept, Stayed, Deep, Filled, Reads}
+use Rattle.idl_parse.proofs.Parsing.Readers.{Reader, halted, too_deep, Shape, head_of, starts, Begun, has_some, has_none, Fresh, some_more, no_more, Kept, Stayed, Deep, Filled, Reads, kept_as, stayed_as, deep_as, filled_as}
 
 -- by a kind
 abbrev pub choose : {A : Type 0} → Kind → Reader A → Reader A → Reader A
@@ -54,6 +54,19 @@ pub fresh_starts : (S : Shape) (more tail : List Token) → S.empty ≡ false �
 fresh_starts S [] tail whole (some_more st) = absurd (starts_nothing S.first [] refl st)
 fresh_starts S (t ∷ more) tail whole (some_more st) = st
 fresh_starts S more tail whole (no_more empty is) = cc
+
+-- some input of the first is one of both
+pub filled_by_first : {A : Type 0} (n : ℕ) (kind : Kind) (follow others : List Kind) (empty : Bool) (f g h : Reader A) → Filled n (one_kind kind follow) f → ((m : ℕ) → n < m → (ts : List Token) → h m ts ≡ choose kind f g m ts) → Filled n (record { first = kind ∷ others; follow = follow; empty = empty }) h
+filled_by_first n kind follow others empty f g h first is =
+    filled_as n (record { first = kind ∷ others; follow = follow; empty = empty }) h first (wide first.more first.fresh) (λ m above tail free.
+    is m above (first.more ++ tail)
+    ∙ take_first kind f g m (first.more ++ tail) (Ok (first.value, tail))
+    (begins_by_start kind (first.more ++ tail) (fresh_starts (one_kind kind follow) first.more tail refl first.fresh))
+    (first.fills m above tail free))
+  where
+    wide : (ts : List Token) → Fresh (one_kind kind follow) ts → Fresh (record { first = kind ∷ others; follow = follow; empty = empty }) ts
+    wide ts (some_more st) = some_more (starts_left (kind ∷ []) others ts st)
+    wide ts (no_more none is) = absurd (never none)
 
 module _ {A : Type 0} (k n limit a b : ℕ) (kind : Kind) (follow : List Kind) (T : Shape) (P Q : Rel A) (f g : Reader A)
     (no_common : apart (kind ∷ []) T.first ≡ true)
@@ -119,29 +132,17 @@ module _ {A : Type 0} (k n limit a b : ℕ) (kind : Kind) (follow : List Kind) (
         | inl here ↦
             let fx : f n ts ≡ Ok (x, rest) = sym (take_first kind f g n ts (f n ts) here refl) ∙ e in
             let h = one.keeps ts x rest lt fx in
-            record {
-              front = h.front;
-              whole = h.whole;
-              again = λ m le more ok.
-                  take_first kind f g m (h.front ++ more) (Ok (x, more))
-                  (begins_same kind (h.front ++ more) ts (same_head h.front more rest ts h.whole (λ none. absurd (never (not_empty (one_kind kind follow) h.front rest ts h.whole (one.begun ts x rest lt (one.sound ts x rest lt fx)) none)))) ∙ here)
-                  (h.again m le more (λ st. ok (starts_left (follow ++ T.follow) (cond T.empty (kind ∷ []) []) more (starts_left follow T.follow more st))));
-              shallow = h.shallow;
-              open_behind = h.open_behind;
-            }
+            kept_as n (alt (one_kind kind follow) T) (choose kind f g) h (λ m le more ok.
+            take_first kind f g m (h.front ++ more) (Ok (x, more))
+            (begins_same kind (h.front ++ more) ts (same_head h.front more rest ts h.whole (λ none. absurd (never (not_empty (one_kind kind follow) h.front rest ts h.whole (one.begun ts x rest lt (one.sound ts x rest lt fx)) none)))) ∙ here)
+            (h.again m le more (λ st. ok (starts_left (follow ++ T.follow) (cond T.empty (kind ∷ []) []) more (starts_left follow T.follow more st)))))
         | inr here ↦
             let gx : g n ts ≡ Ok (x, rest) = sym (take_second kind f g n ts (g n ts) here refl) ∙ e in
             let h = two.keeps ts x rest lt gx in
-            record {
-              front = h.front;
-              whole = h.whole;
-              again = λ m le more ok.
-                  take_second kind f g m (h.front ++ more) (Ok (x, more))
-                  (second_later h.front rest more ts h.whole here (not_empty T h.front rest ts h.whole (two.begun ts x rest lt (two.sound ts x rest lt gx))) ok)
-                  (h.again m le more (λ st. ok (starts_left (follow ++ T.follow) (cond T.empty (kind ∷ []) []) more (starts_right follow T.follow more st))));
-              shallow = h.shallow;
-              open_behind = h.open_behind;
-            }
+            kept_as n (alt (one_kind kind follow) T) (choose kind f g) h (λ m le more ok.
+            take_second kind f g m (h.front ++ more) (Ok (x, more))
+            (second_later h.front rest more ts h.whole here (not_empty T h.front rest ts h.whole (two.begun ts x rest lt (two.sound ts x rest lt gx))) ok)
+            (h.again m le more (λ st. ok (starts_left (follow ++ T.follow) (cond T.empty (kind ∷ []) []) more (starts_right follow T.follow more st)))))
       ]
 
   -- where the second was completed from the start, the first is not chosen
@@ -167,45 +168,35 @@ module _ {A : Type 0} (k n limit a b : ℕ) (kind : Kind) (follow : List Kind) (
   first_at_fill (t ∷ front) left more tail ts is b fresh = begins_same kind (t ∷ (front ++ (more ++ tail))) ts (sym (ap head_of is)) ∙ b
   first_at_fill [] left more tail ts is b fresh = begins_by_start kind (more ++ tail) (fresh_starts (one_kind kind follow) more tail refl (fresh refl))
 
+  -- what stands after the front begins as what was left there
+  as_at_first : (front more left ts : List Token) → ts ≡ front ++ left → head_of more ≡ head_of left → begins kind (front ++ more) ≡ begins kind ts
+  as_at_first front more left ts is same = begins_same kind (front ++ more) ts (same_head front more left ts is (λ none. same))
+
   stays : (ts left : List Token) → length ts < k → choose kind f g n ts ≡ halted left → Stayed n limit a (alt (one_kind kind follow) T) (choose kind f g) ts left
   stays ts left lt e =
       elim (truth (begins kind ts)) [
         | inl here ↦
             let h = one.stays ts left lt (sym (take_first kind f g n ts (f n ts) here refl) ∙ e) in
-            record {
-              front = h.front;
-              whole = h.whole;
-              more = h.more;
-              value = h.value;
-              fresh = λ none. fresh_first h.more (h.fresh none);
-              fills = λ m above tail free.
-                  take_first kind f g m (h.front ++ (h.more ++ tail)) (Ok (h.value, tail))
-                  (first_at_fill h.front left h.more tail ts h.whole here h.fresh)
-                  (h.fills m above tail (free_first tail free));
-              stuck = λ t l is m le others.
-                  take_first kind f g m (h.front ++ (t ∷ others)) (halted (t ∷ others))
-                  (begins_same kind (h.front ++ (t ∷ others)) ts (same_head h.front (t ∷ others) left ts h.whole (λ none. sym (ap head_of is))) ∙ here)
-                  (h.stuck t l is m le others);
-              shallow = h.shallow;
-            }
+            stayed_as n (alt (one_kind kind follow) T) (choose kind f g) h (λ none. fresh_first h.more (h.fresh none))
+            (λ m above tail free.
+            take_first kind f g m (h.front ++ (h.more ++ tail)) (Ok (h.value, tail))
+            (first_at_fill h.front left h.more tail ts h.whole here h.fresh)
+            (h.fills m above tail (free_first tail free)))
+            (λ t l is m le others.
+            take_first kind f g m (h.front ++ (t ∷ others)) (halted (t ∷ others))
+            (as_at_first h.front (t ∷ others) left ts h.whole (sym (ap head_of is)) ∙ here)
+            (h.stuck t l is m le others))
         | inr here ↦
             let h = two.stays ts left lt (sym (take_second kind f g n ts (g n ts) here refl) ∙ e) in
-            record {
-              front = h.front;
-              whole = h.whole;
-              more = h.more;
-              value = h.value;
-              fresh = λ none. fresh_second h.more (h.fresh none);
-              fills = λ m above tail free.
-                  take_second kind f g m (h.front ++ (h.more ++ tail)) (Ok (h.value, tail))
-                  (second_at_fill h.front left h.more tail ts h.whole here h.fresh free)
-                  (h.fills m above tail (free_second tail free));
-              stuck = λ t l is m le others.
-                  take_second kind f g m (h.front ++ (t ∷ others)) (halted (t ∷ others))
-                  (begins_same kind (h.front ++ (t ∷ others)) ts (same_head h.front (t ∷ others) left ts h.whole (λ none. sym (ap head_of is))) ∙ here)
-                  (h.stuck t l is m le others);
-              shallow = h.shallow;
-            }
+            stayed_as n (alt (one_kind kind follow) T) (choose kind f g) h (λ none. fresh_second h.more (h.fresh none))
+            (λ m above tail free.
+            take_second kind f g m (h.front ++ (h.more ++ tail)) (Ok (h.value, tail))
+            (second_at_fill h.front left h.more tail ts h.whole here h.fresh free)
+            (h.fills m above tail (free_second tail free)))
+            (λ t l is m le others.
+            take_second kind f g m (h.front ++ (t ∷ others)) (halted (t ∷ others))
+            (as_at_first h.front (t ∷ others) left ts h.whole (sym (ap head_of is)) ∙ here)
+            (h.stuck t l is m le others))
       ]
 
   deep : (ts left : List Token) → length ts < k → choose kind f g n ts ≡ too_deep left → Deep n limit a (alt (one_kind kind follow) T) (choose kind f g) ts left
@@ -213,52 +204,25 @@ module _ {A : Type 0} (k n limit a b : ℕ) (kind : Kind) (follow : List Kind) (
       elim (truth (begins kind ts)) [
         | inl here ↦
             let h = one.deep ts left lt (sym (take_first kind f g n ts (f n ts) here refl) ∙ e) in
-            record {
-              front = h.front;
-              next = h.next;
-              others = h.others;
-              whole = h.whole;
-              is = h.is;
-              more = h.more;
-              value = h.value;
-              fills = λ m above tail free.
-                  take_first kind f g m (h.front ++ (h.next ∷ (h.more ++ tail))) (Ok (h.value, tail))
-                  (begins_same kind (h.front ++ (h.next ∷ (h.more ++ tail))) ts (same_head h.front (h.next ∷ (h.more ++ tail)) left ts h.whole (λ none. sym (ap head_of h.is))) ∙ here)
-                  (h.fills m above tail (free_first tail free));
-              shallow = h.shallow;
-              open_behind = h.open_behind;
-            }
+            deep_as n (alt (one_kind kind follow) T) (choose kind f g) h (λ m above tail free.
+            take_first kind f g m (h.front ++ (h.next ∷ (h.more ++ tail))) (Ok (h.value, tail))
+            (as_at_first h.front (h.next ∷ (h.more ++ tail)) left ts h.whole (sym (ap head_of h.is)) ∙ here)
+            (h.fills m above tail (free_first tail free)))
         | inr here ↦
             let h = two.deep ts left lt (sym (take_second kind f g n ts (g n ts) here refl) ∙ e) in
-            record {
-              front = h.front;
-              next = h.next;
-              others = h.others;
-              whole = h.whole;
-              is = h.is;
-              more = h.more;
-              value = h.value;
-              fills = λ m above tail free.
-                  take_second kind f g m (h.front ++ (h.next ∷ (h.more ++ tail))) (Ok (h.value, tail))
-                  (begins_same kind (h.front ++ (h.next ∷ (h.more ++ tail))) ts (same_head h.front (h.next ∷ (h.more ++ tail)) left ts h.whole (λ none. sym (ap head_of h.is))) ∙ here)
-                  (h.fills m above tail (free_second tail free));
-              shallow = h.shallow;
-              open_behind = h.open_behind;
-            }
+            deep_as n (alt (one_kind kind follow) T) (choose kind f g) h (λ m above tail free.
+            take_second kind f g m (h.front ++ (h.next ∷ (h.more ++ tail))) (Ok (h.value, tail))
+            (as_at_first h.front (h.next ∷ (h.more ++ tail)) left ts h.whole (sym (ap head_of h.is)) ∙ here)
+            (h.fills m above tail (free_second tail free)))
       ]
 
   filled : Filled n (alt (one_kind kind follow) T) (choose kind f g)
   filled =
       let h = one.filled in
-      record {
-        more = h.more;
-        value = h.value;
-        fresh = fresh_first h.more h.fresh;
-        fills = λ m above tail free.
-            take_first kind f g m (h.more ++ tail) (Ok (h.value, tail))
-            (begins_by_start kind (h.more ++ tail) (fresh_starts (one_kind kind follow) h.more tail refl h.fresh))
-            (h.fills m above tail (free_first tail free));
-      }
+      filled_as n (alt (one_kind kind follow) T) (choose kind f g) h (fresh_first h.more h.fresh) (λ m above tail free.
+      take_first kind f g m (h.more ++ tail) (Ok (h.value, tail))
+      (begins_by_start kind (h.more ++ tail) (fresh_starts (one_kind kind follow) h.more tail refl h.fresh))
+      (h.fills m above tail (free_first tail free)))
 
   pub choice : Reads k n limit a b (alt (one_kind kind follow) T) (Either P Q) (choose kind f g)
   choice = record {

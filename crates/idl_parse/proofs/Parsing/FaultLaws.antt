@@ -3,10 +3,12 @@ use Rattle.std.proofs.Common.{◌≡◌, ℕ, zero, suc, ◌+◌, ◌-◌, ◌<�
 use Rattle.std.proofs.lemmas.List.{append-nil}
 use Rattle.std.proofs.Math.Seq.{take-append_seam, drop-append_seam, take-append-add}
 use Rattle.longest_front.specs.Fronts.{Begins}
+use Rattle.facts.specs.ResultSteps.{◌>>=◌}
+use Rattle.facts.proofs.ResultLaws.{bind_gave}
 use Rattle.idl_parse.specs.Depth.{opened, Shallow}
 use Rattle.idl_parse.specs.Faults.{AnyFile, UnexpectedAt, TooDeepAt, StopsAt}
 use Rattle.idl_parse.specs.Grammar.{IsFile}
-use Rattle.idl_parse.specs.ReadSteps.{Stop, ◌>>=◌, entry_at, file_at}
+use Rattle.idl_parse.specs.ReadSteps.{Stop, entry_at, file_at}
 use Rattle.idl_parse.specs.declared.parse_fault.ParseWhy.{ParseWhy}
 use Rattle.idl_parse.specs.declared.parse_fault.ParseWhy.TheVariants.{Unexpected, TooDeep}
 use Rattle.idl_parse.specs.declared.token.Token.{Token}
@@ -15,7 +17,7 @@ use Rattle.idl_parse.specs.declared.keyword.Keyword.TheVariants as words
 use Rattle.idl_parse.specs.declared.kind.Kind.TheVariants as kinds
 use Rattle.idl_parse.proofs.Parsing.Until.{item_shape}
 use Rattle.idl_parse.proofs.Parsing.FileLaws.{behind_entry, entry_shrinks, file_turn, file_nothing, file_goes_on, file_ends, file_halts, file_sound, file_complete, nothing_follows}
-use Rattle.idl_parse.proofs.Parsing.Heads.{bind_ok, bind_err, opened_append, shallow_append}
+use Rattle.idl_parse.proofs.Parsing.Heads.{bind_err, opened_append, shallow_append}
 use Rattle.idl_parse.proofs.Parsing.Productions.{entry}
 use Rattle.idl_parse.proofs.Parsing.Readers.{halted, too_deep, Kept}
 
@@ -107,15 +109,19 @@ failed_first : (r : Result (List Entry) Stop) (x : Entry) (s : Stop) → (r >>= 
 failed_first (Ok es) x s e = absurd (never (x ∷ es) s e)
 failed_first (Err t) x s e = e
 
-stays_within : (k n : ℕ) (ts left : List Token) → length ts < k → file_at (suc n) ts ≡ halted left → FileStays (suc n) ts left
-stays_within zero n ts left lt e = absurd (omega arith)
-stays_within (suc k) n [] left lt e = absurd (never [] (record { left = left; why = Unexpected }) (sym (file_nothing (suc n)) ∙ e))
-stays_within (suc k) n (t ∷ ts) left lt e =
-    elim (bind_err (entry_at (suc n) (t ∷ ts)) (behind_entry (file_at (suc n))) (record { left = left; why = Unexpected }) (sym (file_turn n t ts) ∙ e)) [
-      | inl f ↦ stays_first n (t ∷ ts) left f
+-- by the entries, one after the other
+stops_within : (why : ParseWhy) (Stops : ℕ → List Token → List Token → Type 0)
+    → ((n : ℕ) (ts left : List Token) → entry_at (suc n) ts ≡ Err (record { left = left; why = why }) → Stops (suc n) ts left)
+    → ((n : ℕ) (ts left : List Token) (x : Entry) (mid : List Token) → entry_at (suc n) ts ≡ Ok (x, mid) → Stops (suc n) mid left → Stops (suc n) ts left)
+    → (k n : ℕ) (ts left : List Token) → length ts < k → file_at (suc n) ts ≡ Err (record { left = left; why = why }) → Stops (suc n) ts left
+stops_within why Stops first second zero n ts left lt e = absurd (omega arith)
+stops_within why Stops first second (suc k) n [] left lt e = absurd (never [] (record { left = left; why = why }) (sym (file_nothing (suc n)) ∙ e))
+stops_within why Stops first second (suc k) n (t ∷ ts) left lt e =
+    elim (bind_err (entry_at (suc n) (t ∷ ts)) (behind_entry (file_at (suc n))) (record { left = left; why = why }) (sym (file_turn n t ts) ∙ e)) [
+      | inl f ↦ first n (t ∷ ts) left f
       | inr p ↦
           let less : length p.0.1 < length (t ∷ ts) = entry_shrinks n (t ∷ ts) p.0.0 p.0.1 p.1 in
-          stays_second n (t ∷ ts) left p.0.0 p.0.1 p.1 (stays_within k n p.0.1 left (omega arith) (failed_first (file_at (suc n) p.0.1) p.0.0 (record { left = left; why = Unexpected }) p.2))
+          second n (t ∷ ts) left p.0.0 p.0.1 p.1 (stops_within why Stops first second k n p.0.1 left (omega arith) (failed_first (file_at (suc n) p.0.1) p.0.0 (record { left = left; why = why }) p.2))
     ]
 
 deep_first : (n : ℕ) (ts left : List Token) → entry_at (suc n) ts ≡ too_deep left → FileDeep (suc n) ts left
@@ -154,17 +160,6 @@ deep_second n ts left x mid e j =
       open_behind = opened_append 0 h.front j.front ∙ ap (λ o. opened o j.front) h.open_behind ∙ j.open_behind;
     }
 
-deep_within : (k n : ℕ) (ts left : List Token) → length ts < k → file_at (suc n) ts ≡ too_deep left → FileDeep (suc n) ts left
-deep_within zero n ts left lt e = absurd (omega arith)
-deep_within (suc k) n [] left lt e = absurd (never [] (record { left = left; why = TooDeep }) (sym (file_nothing (suc n)) ∙ e))
-deep_within (suc k) n (t ∷ ts) left lt e =
-    elim (bind_err (entry_at (suc n) (t ∷ ts)) (behind_entry (file_at (suc n))) (record { left = left; why = TooDeep }) (sym (file_turn n t ts) ∙ e)) [
-      | inl f ↦ deep_first n (t ∷ ts) left f
-      | inr p ↦
-          let less : length p.0.1 < length (t ∷ ts) = entry_shrinks n (t ∷ ts) p.0.0 p.0.1 p.1 in
-          deep_second n (t ∷ ts) left p.0.0 p.0.1 p.1 (deep_within k n p.0.1 left (omega arith) (failed_first (file_at (suc n) p.0.1) p.0.0 (record { left = left; why = TooDeep }) p.2))
-    ]
-
 -- ---- more room changes nothing that was read
 
 entry_again : (n m : ℕ) (ts : List Token) (x : Entry) (mid : List Token) → suc n ≤ m → Kept (suc n) (suc n) 0 0 (item_shape (kinds.Include ∷ kinds.Keyword words.Module ∷ []) []) entry_at ts x mid → entry_at m ts ≡ Ok (x, mid)
@@ -176,8 +171,8 @@ more_room : (k n m : ℕ) (ts : List Token) (es : List Entry) → length ts < k 
 more_room zero n m ts es lt le e = absurd (omega arith)
 more_room (suc k) n m [] es lt le e = file_nothing m ∙ sym (file_nothing (suc n)) ∙ e
 more_room (suc k) n m (t ∷ ts) es lt le e =
-    let p = bind_ok (entry_at (suc n) (t ∷ ts)) (behind_entry (file_at (suc n))) es (sym (file_turn n t ts) ∙ e) in
-    let q = bind_ok (file_at (suc n) p.0.1) (λ others. Ok (p.0.0 ∷ others)) es p.2 in
+    let p = bind_gave (entry_at (suc n) (t ∷ ts)) (behind_entry (file_at (suc n))) es (sym (file_turn n t ts) ∙ e) in
+    let q = bind_gave (file_at (suc n) p.0.1) (λ others. Ok (p.0.0 ∷ others)) es p.2 in
     let less : length p.0.1 < length (t ∷ ts) = entry_shrinks n (t ∷ ts) p.0.0 p.0.1 p.1 in
     let h = (entry (suc (length (t ∷ ts))) n).keeps (t ∷ ts) p.0.0 p.0.1 (omega arith) p.1 in
     let first = entry_again n m (t ∷ ts) p.0.0 p.0.1 le h in
@@ -223,13 +218,13 @@ too_deep_at n front next others more value fills shallow nested =
 
 pub file_fault : (n : ℕ) (ts left : List Token) (why : ParseWhy) → file_at (suc n) ts ≡ Err (record { left = left; why = why }) → (place : ℕ) × (drop place ts ≡ left) × StopsAt (suc n) ts place why
 file_fault n ts left Unexpected e =
-    let h = stays_within (suc (length ts)) n ts left (omega arith) e in (
+    let h = stops_within Unexpected FileStays stays_first stays_second (suc (length ts)) n ts left (omega arith) e in (
       length h.front,
       ap (drop (length h.front)) h.whole ∙ drop-append_seam h.front left,
       subst (λ us. UnexpectedAt (suc n) us (length h.front)) (sym h.whole) (unexpected_at n h.front left h.more h.value (h.fills (suc (suc n)) (omega arith)) h.stuck h.shallow),
     )
 file_fault n ts left TooDeep e =
-    let h = deep_within (suc (length ts)) n ts left (omega arith) e in (
+    let h = stops_within TooDeep FileDeep deep_first deep_second (suc (length ts)) n ts left (omega arith) e in (
       length h.front,
       ap (drop (length h.front)) h.whole ∙ drop-append_seam h.front left,
       subst (λ us. TooDeepAt (suc n) us (length h.front)) (ap (λ l. h.front ++ l) (sym h.is) ∙ sym h.whole) (too_deep_at n h.front h.next h.others h.more h.value (h.fills (suc (suc (suc n))) (omega arith)) h.shallow h.open_behind),

@@ -1,16 +1,17 @@
 -- Whole files: one entry after the other, to the end.
 use Rattle.std.proofs.Common.{◌≡◌, ℕ, zero, suc, ◌<◌, true, Result, Ok, Err, List, [], ◌∷◌, ◌++◌, length, refl, sym, ap, ◌∙◌, arith, subst}
+use Rattle.facts.specs.ResultSteps.{◌>>=◌}
+use Rattle.facts.proofs.ResultLaws.{bind_gave, bind_same_after}
 use Rattle.idl_parse.specs.Grammar.{EntryOf, IsFile}
 use Rattle.idl_parse.specs.KindSteps.{holds}
-use Rattle.idl_parse.specs.ReadSteps.{Stop, ◌>>=◌, entry_at, file_in, file_at}
+use Rattle.idl_parse.specs.ReadSteps.{Stop, entry_at, file_in, file_at}
 use Rattle.idl_parse.specs.Rules.{Many, none, more}
 use Rattle.idl_parse.specs.declared.keyword.Keyword.TheVariants as words
 use Rattle.idl_parse.specs.declared.kind.Kind.TheVariants as kinds
 use Rattle.idl_parse.specs.declared.token.Token.{Token}
 use Rattle.idl_parse.specs.declared.tree.module.Entry.{Entry}
-use Rattle.idl_parse.proofs.Parsing.Heads.{bind_ok, then_ok, then_err}
+use Rattle.idl_parse.proofs.Parsing.Heads.{then_ok, then_err}
 use Rattle.idl_parse.specs.ReadSteps.{Shrinks}
-use Rattle.idl_parse.proofs.Parsing.Loops.{bind_same}
 use Rattle.idl_parse.proofs.Parsing.Productions.{entry}
 use Rattle.idl_parse.proofs.Parsing.Readers.{starts}
 use Rattle.idl_parse.proofs.Parsing.Until.{shrinks_by}
@@ -26,7 +27,7 @@ fuel_same n zero b ts lt lt' = absurd (omega arith)
 fuel_same n (suc a) zero ts lt lt' = absurd (omega arith)
 fuel_same n (suc a) (suc b) [] lt lt' = refl
 fuel_same n (suc a) (suc b) (t ∷ ts) lt lt' =
-    bind_same (entry_at (suc n) (t ∷ ts)) (behind_entry (file_in (suc n) a)) (behind_entry (file_in (suc n) b))
+    bind_same_after (entry_at (suc n) (t ∷ ts)) (behind_entry (file_in (suc n) a)) (behind_entry (file_in (suc n) b))
     (λ e is.
     let less : length e.1 < length (t ∷ ts) = entry_shrinks n (t ∷ ts) e.0 e.1 is in
     ap (λ r. r >>= λ others. Ok (e.0 ∷ others)) (fuel_same n a b e.1 (omega arith) (omega arith)))
@@ -38,7 +39,7 @@ file_nothing m = refl
 pub file_turn : (n : ℕ) (t : Token) (ts : List Token) → file_at (suc n) (t ∷ ts) ≡ (entry_at (suc n) (t ∷ ts) >>= behind_entry (file_at (suc n)))
 unfolding file_at
 file_turn n t ts =
-    bind_same (entry_at (suc n) (t ∷ ts)) (behind_entry (file_in (suc n) (length (t ∷ ts)))) (behind_entry (λ rest. file_in (suc n) (suc (length rest)) rest))
+    bind_same_after (entry_at (suc n) (t ∷ ts)) (behind_entry (file_in (suc n) (length (t ∷ ts)))) (behind_entry (λ rest. file_in (suc n) (suc (length rest)) rest))
     (λ e is.
     let less : length e.1 < length (t ∷ ts) = entry_shrinks n (t ∷ ts) e.0 e.1 is in
     ap (λ r. r >>= λ others. Ok (e.0 ∷ others)) (fuel_same n (length (t ∷ ts)) (suc (length e.1)) e.1 (omega arith) (omega arith)))
@@ -83,8 +84,8 @@ sound_within : (k n : ℕ) (ts : List Token) (es : List Entry) → length ts < k
 sound_within zero n ts es lt e = absurd (omega arith)
 sound_within (suc k) n [] es lt e = let q : [] ≡ es = entries_of (sym (file_nothing (suc n)) ∙ e) in subst (IsFile (suc n) []) q none
 sound_within (suc k) n (t ∷ ts) es lt e =
-    let p = bind_ok (entry_at (suc n) (t ∷ ts)) (behind_entry (file_at (suc n))) es (sym (file_turn n t ts) ∙ e) in
-    let q = bind_ok (file_at (suc n) p.0.1) (λ others. Ok (p.0.0 ∷ others)) es p.2 in
+    let p = bind_gave (entry_at (suc n) (t ∷ ts)) (behind_entry (file_at (suc n))) es (sym (file_turn n t ts) ∙ e) in
+    let q = bind_gave (file_at (suc n) p.0.1) (λ others. Ok (p.0.0 ∷ others)) es p.2 in
     let less : length p.0.1 < length (t ∷ ts) = entry_shrinks n (t ∷ ts) p.0.0 p.0.1 p.1 in
     let first = (entry (suc k) n).sound (t ∷ ts) p.0.0 p.0.1 lt p.1 in
     let others = sound_within k n p.0.1 q.0 (omega arith) q.1 in

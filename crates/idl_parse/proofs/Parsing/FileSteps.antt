@@ -1,7 +1,8 @@
 -- The loop over a file's entries: what it has so far, and what is left gives, are the whole.
 use Rattle.std.proofs.Common.{◌≡◌, Result, Ok, Err, List, [], ◌∷◌, ◌++◌, refl, sym, ap, ◌∙◌, append_assoc, length, arith}
 use Rattle.std.proofs.lemmas.List.{append-nil}
-use Rattle.idl_parse.specs.ReadSteps.{Stop, ◌>>=◌, Fails, entry_at, file_at}
+use Rattle.facts.specs.ResultSteps.{◌>>=◌}
+use Rattle.idl_parse.specs.ReadSteps.{Stop, Fails, entry_at, file_at}
 use Rattle.idl_parse.specs.declared.parser.halt.Halt.{Halt}
 use Rattle.idl_parse.specs.declared.token.Token.{Token}
 use Rattle.idl_parse.specs.declared.tree.module.Entry.{Entry}
@@ -22,18 +23,18 @@ entries_go_on front ts x after total e so_far =
     let turn : file_at 16 ts ≡ (file_at 16 after >>= λ others. Ok (x ∷ others)) = file_goes_on 15 ts x after (file_at 16 after >>= λ others. Ok (x ∷ others)) e refl in
     sym (regroup front x (file_at 16 after)) ∙ ap (with_entries front) (sym turn) ∙ so_far
 
-pub entries_fail : (e : Halt) (front : List Entry) (ts : List Token) (total : Result (List Entry) Stop) → (ts ≡ [] → ⊥) → Fails e (entry_at 16 ts) → with_entries front (file_at 16 ts) ≡ total → Fails e total
-entries_fail e front [] total more h so_far = absurd (more refl)
-entries_fail e front (t ∷ ts) total more h so_far =
-    fails_first e (entry_at 16 (t ∷ ts)) total h (λ s failed.
+pub entries_fail : (e : Halt) (left : List Token) (front : List Entry) (ts : List Token) (total : Result (List Entry) Stop) → (ts ≡ [] → ⊥) → Fails e left (entry_at 16 ts) → with_entries front (file_at 16 ts) ≡ total → Fails e left total
+entries_fail e left front [] total more h so_far = absurd (more refl)
+entries_fail e left front (t ∷ ts) total more h so_far =
+    fails_first e left (entry_at 16 (t ∷ ts)) total h (λ s failed.
     let turn : file_at 16 (t ∷ ts) ≡ Err s = file_turn 15 t ts ∙ then_err (entry_at 16 (t ∷ ts)) (behind_entry (file_at 16)) s failed in
     sym so_far ∙ rw turn refl)
 
-pub entries_end : (front : List Entry) (ts : List Token) (total : Result (List Entry) Stop) → length ts ≡ 0 → with_entries front (file_at 16 ts) ≡ total → total ≡ Ok front
+pub entries_end : (front : List Entry) (ts : List Token) (total : Result (List Entry) Stop) → ts ≡ [] → with_entries front (file_at 16 ts) ≡ total → total ≡ Ok front
 entries_end front [] total none so_far =
     let turn : file_at 16 [] ≡ Ok [] = file_nothing 16 in
     sym so_far ∙ rw turn (ap Ok (append-nil front))
-entries_end front (t ∷ ts) total none so_far = absurd (omega arith)
+entries_end front (t ∷ ts) total none so_far = cc
 
 pub entry_turn : Shrinks (entry_at 16)
 entry_turn = entry_shrinks 15

@@ -1,18 +1,15 @@
 -- First tokens, sets of kinds, and results.
 use Rattle.std.proofs.Common.{◌≡◌, ℕ, Bool, true, false, ◌&&◌, ◌||◌, not, Result, Ok, Err, List, [], ◌∷◌, ◌++◌, length, refl, sym, ap, ◌∙◌, arith, ◌⊎◌, inl, inr, length-append}
+use Rattle.facts.specs.ResultSteps.{◌>>=◌}
 use Rattle.idl_parse.specs.Depth.{behind, opened, Shallow}
 use Rattle.idl_parse.specs.KindSteps.{same_kind, holds, begins}
-use Rattle.idl_parse.specs.ReadSteps.{Stop, ◌>>=◌}
+use Rattle.idl_parse.specs.ReadSteps.{Stop}
 use Rattle.idl_parse.specs.declared.kind.Kind.{Kind}
 use Rattle.idl_parse.specs.declared.token.Token.{Token}
 use Rattle.idl_parse.proofs.Parsing.KindLaws.{same_kind_is}
 use Rattle.idl_parse.proofs.Parsing.Readers.{head_of, holds_head, starts}
 
 -- ---- results
-
-pub bind_ok : {A B : Type 0} (r : Result A Stop) (f : A → Result B Stop) (y : B) → (r >>= f) ≡ Ok y → (x : A) × (r ≡ Ok x) × (f x ≡ Ok y)
-bind_ok (Ok x) f y e = (x, refl, e)
-bind_ok (Err s) f y e = cc
 
 pub bind_err : {A B : Type 0} (r : Result A Stop) (f : A → Result B Stop) (s : Stop) → (r >>= f) ≡ Err s → (r ≡ Err s) ⊎ ((x : A) × (r ≡ Ok x) × (f x ≡ Err s))
 bind_err (Ok x) f s e = inr (x, refl, e)

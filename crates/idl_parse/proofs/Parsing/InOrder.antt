@@ -1,11 +1,13 @@
 -- One reader behind the other reads the one relation behind the other.
 use Rattle.std.proofs.Common.{◌≡◌, ℕ, suc, ◌<◌, ◌≤◌, true, cond, Ok, List, [], ◌∷◌, ◌++◌, length, refl, sym, ap, ◌∙◌, arith, inl, inr, append_assoc}
+use Rattle.facts.specs.ResultSteps.{◌>>=◌}
+use Rattle.facts.proofs.ResultLaws.{bind_gave}
 use Rattle.idl_parse.specs.Depth.{opened}
-use Rattle.idl_parse.specs.ReadSteps.{Read, ◌>>=◌}
+use Rattle.idl_parse.specs.ReadSteps.{Read}
 use Rattle.idl_parse.specs.Rules.{Rel, ◌⟫◌}
 use Rattle.idl_parse.specs.declared.parse_fault.ParseWhy.TheVariants.{Unexpected, TooDeep}
 use Rattle.idl_parse.specs.declared.token.Token.{Token}
-use Rattle.idl_parse.proofs.Parsing.Heads.{bind_ok, bind_err, then_ok, then_err, starts_left, starts_right, apart, starts_apart, starts_nothing, head_append, opened_append, shallow_append}
+use Rattle.idl_parse.proofs.Parsing.Heads.{bind_err, then_ok, then_err, starts_left, starts_right, apart, starts_apart, starts_nothing, head_append, opened_append, shallow_append}
 use Rattle.idl_parse.proofs.Parsing.Readers.{Reader, halted, too_deep, Shape, seq, head_of, starts, Begun, has_some, has_none, Fresh, some_more, no_more, Kept, Stayed, Deep, Filled, Core, Reads, core_of}
 
 abbrev pub then : {A B : Type 0} → Reader A → (A → Reader B) → Reader B
@@ -127,7 +129,7 @@ module _ {A B : Type 0} (k k' n limit a b c : ℕ) (S T : Shape) (P : Rel A) (Q 
 
   sound : (ts : List Token) (y : B) (rest : List Token) → length ts < k → then f g n ts ≡ Ok (y, rest) → (P ⟫ Q) ts y rest
   sound ts y rest lt e =
-      let p = bind_ok (f n ts) (λ x. g x.0 n x.1) (y, rest) e in
+      let p = bind_gave (f n ts) (λ x. g x.0 n x.1) (y, rest) e in
       let m = one.sound ts p.0.0 p.0.1 lt p.1 in
       (p.0.0, p.0.1, m, (two p.0.0 ts p.0.1 lt p.1).sound p.0.1 y rest (short ts p.0.0 p.0.1 lt m) p.2)
 
@@ -139,7 +141,7 @@ module _ {A B : Type 0} (k k' n limit a b c : ℕ) (S T : Shape) (P : Rel A) (Q 
 
   keeps : (ts : List Token) (y : B) (rest : List Token) → length ts < k → then f g n ts ≡ Ok (y, rest) → Kept n limit a c (seq S T) (then f g) ts y rest
   keeps ts y rest lt e =
-      let p = bind_ok (f n ts) (λ x. g x.0 n x.1) (y, rest) e in
+      let p = bind_gave (f n ts) (λ x. g x.0 n x.1) (y, rest) e in
       let x = p.0.0 in
       let mid = p.0.1 in
       let s = short ts x mid lt (one.sound ts x mid lt p.1) in

@@ -1,29 +1,26 @@
 -- The enumerators of an enum, behind the last of which a comma may stand.
 use Rattle.std.proofs.Common.{◌≡◌, ℕ, zero, suc, ◌<◌, ◌≤◌, Bool, true, false, cond, Result, Ok, Err, List, [], ◌∷◌, ◌++◌, length, refl, ap, ◌∙◌, arith, inl, inr}
+use Rattle.facts.specs.ResultSteps.{◌>>=◌}
+use Rattle.facts.proofs.ResultLaws.{bind_assoc, bind_gave, bind_same_after}
 use Rattle.idl_parse.specs.Grammar.{Mark, Number, Item}
 use Rattle.idl_parse.specs.KindSteps.{same_kind, holds, begins}
-use Rattle.idl_parse.specs.ReadSteps.{Stop, Read, ◌>>=◌, mark_at, item_number_at, item_at, item_comma_at, items_at}
+use Rattle.idl_parse.specs.ReadSteps.{Read, mark_at, item_number_at, item_at, item_comma_at, items_at}
 use Rattle.idl_parse.specs.Rules.{Rel, Gives, ◌⟫◌, Either}
 use Rattle.idl_parse.specs.declared.kind.Kind.TheVariants as kinds
 use Rattle.idl_parse.specs.declared.sign.Sign.TheVariants.{CloseBrace, Comma, Equals}
 use Rattle.idl_parse.specs.declared.token.Token.{Token}
 use Rattle.idl_parse.specs.declared.tree.decl.EnumItem.{EnumItem}
-use Rattle.idl_parse.proofs.Parsing.Choice.{choose, one_kind, truth, begins_by_start, take_first, fresh_starts}
+use Rattle.idl_parse.proofs.Parsing.Choice.{choose, one_kind, truth, filled_by_first}
 use Rattle.idl_parse.proofs.Parsing.Combine.{next, done, either, maybe}
-use Rattle.idl_parse.proofs.Parsing.Heads.{starts_left, bind_ok}
 use Rattle.idl_parse.proofs.Parsing.InOrder.{then, in_order}
 use Rattle.idl_parse.proofs.Parsing.Leaves.{giving, single, one}
 use Rattle.idl_parse.proofs.Parsing.Literals.{name, place}
 use Rattle.idl_parse.specs.ReadSteps.{Shrinks}
-use Rattle.idl_parse.proofs.Parsing.Loops.{bind_same, cond_same, one_turn, until_turn}
-use Rattle.idl_parse.proofs.Parsing.Readers.{Reader, Shape, Fresh, some_more, no_more, Filled, Reads}
+use Rattle.idl_parse.proofs.Parsing.Loops.{cond_same, one_turn, until_turn}
+use Rattle.idl_parse.proofs.Parsing.Readers.{Reader, Shape, Filled, Reads, of_no_length}
 use Rattle.idl_parse.proofs.Parsing.Rearranged.{ItemsClosed, items_there, items_back, related}
 use Rattle.idl_parse.proofs.Parsing.Regroup.{same_reader}
 use Rattle.idl_parse.proofs.Parsing.Until.{shrinks_by}
-
-pub bind_assoc : {A B C : Type 0} (r : Result A Stop) (f : A → Result B Stop) (g : B → Result C Stop) → ((r >>= f) >>= g) ≡ (r >>= λ x. f x >>= g)
-bind_assoc (Ok x) f g = refl
-bind_assoc (Err s) f g = refl
 
 module _ (k n : ℕ) where
   item_number : Reads k (suc n) (suc n) 0 0 (one_kind (kinds.Sign Equals) []) (Mark Equals ⟫ λ _. Number) (λ m. item_number_at)
@@ -70,7 +67,7 @@ behind_item_short item x rest e = by_test (begins (kinds.Sign CloseBrace) item.1
     by_test : (b : Bool) → cond b (read_item item.0 item.1) (mark_at Comma item.1 >>= λ comma. Ok (item.0, comma.1)) ≡ Ok (x, rest) → length rest ≤ length item.1
     by_test true e = let q : length item.1 ≡ length rest = ap length (same_rest e) in omega arith
     by_test false e =
-        let p = bind_ok (mark_at Comma item.1) (λ comma. Ok (item.0, comma.1)) (x, rest) e in
+        let p = bind_gave (mark_at Comma item.1) (λ comma. Ok (item.0, comma.1)) (x, rest) e in
         let less : length p.0.1 < length item.1 = comma_shrinks item.1 p.0.0 p.0.1 p.1 in
         let q : length p.0.1 ≡ length rest = ap length (same_rest p.2) in
         omega arith
@@ -78,7 +75,7 @@ behind_item_short item x rest e = by_test (begins (kinds.Sign CloseBrace) item.1
 pub item_comma_shrinks : Shrinks item_comma_at
 unfolding item_comma_at
 item_comma_shrinks ts x rest e =
-    let p = bind_ok (item_at ts) behind_item (x, rest) e in
+    let p = bind_gave (item_at ts) behind_item (x, rest) e in
     let less : length p.0.1 < length ts = item_shrinks ts p.0.0 p.0.1 p.1 in
     let short : length rest ≤ length p.0.1 = behind_item_short p.0 x rest p.2 in
     omega arith
@@ -111,7 +108,7 @@ unfolding item_comma_at
 items_at_turn m ts =
     items_by_turn ts
     ∙ cond_same (begins (kinds.Sign CloseBrace) ts) (mark_at CloseBrace ts >>= λ close. Ok ([], close.1)) (item_comma_at ts >>= all_items) (then (λ m. item_at) (λ x. choose (kinds.Sign CloseBrace) (then (λ m. mark_at CloseBrace) (λ _. giving (x ∷ []))) (then (λ m. mark_at Comma) (λ _. then (λ m. items_at) (λ xs. giving (x ∷ xs))))) m ts)
-    (bind_assoc (item_at ts) behind_item all_items ∙ bind_same (item_at ts) (λ x. behind_item x >>= all_items) (λ x. choose (kinds.Sign CloseBrace) (then (λ m. mark_at CloseBrace) (λ _. giving (x.0 ∷ []))) (then (λ m. mark_at Comma) (λ _. then (λ m. items_at) (λ xs. giving (x.0 ∷ xs)))) m x.1) (λ x is. behind_item_turn m x))
+    (bind_assoc (item_at ts) behind_item all_items ∙ bind_same_after (item_at ts) (λ x. behind_item x >>= all_items) (λ x. choose (kinds.Sign CloseBrace) (then (λ m. mark_at CloseBrace) (λ _. giving (x.0 ∷ []))) (then (λ m. mark_at Comma) (λ _. then (λ m. items_at) (λ xs. giving (x.0 ∷ xs)))) m x.1) (λ x is. behind_item_turn m x))
 
 -- ---- its laws
 
@@ -145,32 +142,10 @@ turn k n again =
     never e = cc
 
 filled : (n : ℕ) → Filled (suc n) items_shape (λ m. items_at)
-unfolding holds same_kind
 filled n =
-    let h = (closing 0 n []).filled in
-    record {
-      more = h.more;
-      value = h.value;
-      fresh = wide h.more h.fresh;
-      fills = λ m above tail free.
-          items_at_turn m (h.more ++ tail)
-          ∙ take_first (kinds.Sign CloseBrace) (then (λ m. mark_at CloseBrace) (λ _. giving [])) (then (λ m. item_at) items_behind) m (h.more ++ tail) (Ok (h.value, tail))
-          (begins_by_start (kinds.Sign CloseBrace) (h.more ++ tail) (fresh_starts (one_kind (kinds.Sign CloseBrace) []) h.more tail refl h.fresh))
-          (h.fills m above tail free);
-    }
-  where
-    wide : (ts : List Token) → Fresh (one_kind (kinds.Sign CloseBrace) []) ts → Fresh items_shape ts
-    wide ts (some_more st) = some_more (starts_left (kinds.Sign CloseBrace ∷ []) (kinds.Ident ∷ []) ts st)
-    wide ts (no_more e is) = cc
+    filled_by_first (suc n) (kinds.Sign CloseBrace) [] (kinds.Ident ∷ []) false (then (λ m. mark_at CloseBrace) (λ _. giving [])) (then (λ m. item_at) items_behind) (λ m. items_at)
+    (closing 0 n []).filled (λ m above ts. items_at_turn m ts)
 
 pub items : (k n : ℕ) → Reads k (suc n) (suc n) 0 0 items_shape ItemsClosed (λ m. items_at)
-items zero n = record {
-  sound = λ ts x rest lt. absurd (omega arith);
-  complete = λ ts x rest lt. absurd (omega arith);
-  begun = λ ts x rest lt. absurd (omega arith);
-  keeps = λ ts x rest lt. absurd (omega arith);
-  stays = λ ts left lt. absurd (omega arith);
-  deep = λ ts left lt. absurd (omega arith);
-  filled = filled n;
-}
+items zero n = of_no_length (filled n)
 items (suc k) n = turn k n (items k n)

@@ -1,8 +1,9 @@
 -- A loop reads on what is left: what it has so far, and what is left gives, are the whole.
 use Rattle.std.proofs.Common.{◌≡◌, true, false, Result, Ok, Err, List, [], ◌∷◌, ◌++◌, refl, sym, ap, ◌∙◌, append_assoc}
 use Rattle.std.proofs.lemmas.List.{append-nil}
+use Rattle.facts.specs.ResultSteps.{◌>>=◌}
 use Rattle.idl_parse.specs.KindSteps.{begins}
-use Rattle.idl_parse.specs.ReadSteps.{Stop, Read, ◌>>=◌, Fails, mark_at, with_front, until_at}
+use Rattle.idl_parse.specs.ReadSteps.{Stop, Read, Fails, mark_at, with_front, until_at}
 use Rattle.idl_parse.specs.declared.kind.Kind.TheVariants as kinds
 use Rattle.idl_parse.specs.declared.parser.halt.Halt.{Halt}
 use Rattle.idl_parse.specs.declared.parser.halt.Halt.TheVariants as halts
@@ -15,9 +16,9 @@ regroup : {A : Type 0} (front : List A) (x : A) (read : Read (List A)) → with_
 regroup front x (Ok xs) = ap (λ ys. Ok (ys, xs.1)) (sym (append_assoc front (x ∷ []) xs.0))
 regroup front x (Err s) = refl
 
-pub fails_first : {A B : Type 0} (e : Halt) (first : Result A Stop) (rest : Result B Stop) → Fails e first → ((s : Stop) → first ≡ Err s → rest ≡ Err s) → Fails e rest
-fails_first halts.Memory first rest h on = tt
-fails_first (halts.At left why) first rest h on = on (record { left = left.now; why = why }) h
+pub fails_first : {A B : Type 0} (e : Halt) (left : List Token) (first : Result A Stop) (rest : Result B Stop) → Fails e left first → ((s : Stop) → first ≡ Err s → rest ≡ Err s) → Fails e left rest
+fails_first halts.Memory left first rest h on = tt
+fails_first (halts.Grammar why) left first rest h on = on (record { left = left; why = why }) h
 
 pub nothing_before : {A : Type 0} (read : Read (List A)) → with_front [] read ≡ read
 nothing_before (Ok xs) = refl
@@ -29,9 +30,9 @@ module _ {A : Type 0} (sign : Sign) (f : List Token → Read A) (shrinks : Shrin
       let turn : until_at sign f ts ≡ (until_at sign f after >>= λ xs. Ok (x ∷ xs.0, xs.1)) = until_turn sign f shrinks ts ∙ rw (b, e) refl in
       sym (regroup front x (until_at sign f after)) ∙ ap (with_front front) (sym turn) ∙ so_far
 
-  pub loop_fails : (e : Halt) (front : List A) (ts : List Token) (total : Read (List A)) → begins (kinds.Sign sign) ts ≡ false → Fails e (f ts) → with_front front (until_at sign f ts) ≡ total → Fails e total
-  loop_fails e front ts total b h so_far =
-      fails_first e (f ts) total h (λ s failed.
+  pub loop_fails : (e : Halt) (left : List Token) (front : List A) (ts : List Token) (total : Read (List A)) → begins (kinds.Sign sign) ts ≡ false → Fails e left (f ts) → with_front front (until_at sign f ts) ≡ total → Fails e left total
+  loop_fails e left front ts total b h so_far =
+      fails_first e left (f ts) total h (λ s failed.
       let turn : until_at sign f ts ≡ Err s = until_turn sign f shrinks ts ∙ rw (b, failed) refl in
       sym so_far ∙ rw turn refl)
 
@@ -40,8 +41,8 @@ module _ {A : Type 0} (sign : Sign) (f : List Token → Read A) (shrinks : Shrin
       let turn : until_at sign f ts ≡ Ok ([], rest) = until_turn sign f shrinks ts ∙ rw (b, e) refl in
       sym so_far ∙ rw turn (ap (λ ys. Ok (ys, rest)) (append-nil front))
 
-  pub loop_end_fails : (e : Halt) (front : List A) (ts : List Token) (total : Read (List A)) → begins (kinds.Sign sign) ts ≡ true → Fails e (mark_at sign ts) → with_front front (until_at sign f ts) ≡ total → Fails e total
-  loop_end_fails e front ts total b h so_far =
-      fails_first e (mark_at sign ts) total h (λ s failed.
+  pub loop_end_fails : (e : Halt) (left : List Token) (front : List A) (ts : List Token) (total : Read (List A)) → begins (kinds.Sign sign) ts ≡ true → Fails e left (mark_at sign ts) → with_front front (until_at sign f ts) ≡ total → Fails e left total
+  loop_end_fails e left front ts total b h so_far =
+      fails_first e left (mark_at sign ts) total h (λ s failed.
       let turn : until_at sign f ts ≡ Err s = until_turn sign f shrinks ts ∙ rw (b, failed) refl in
       sym so_far ∙ rw turn refl)

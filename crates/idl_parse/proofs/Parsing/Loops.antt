@@ -1,14 +1,12 @@
 -- Readers that repeat: the fuel is enough, since each turn takes a token.
 use Rattle.std.proofs.Common.{◌≡◌, ℕ, zero, suc, ◌<◌, Bool, cond, Result, Ok, Err, List, [], ◌∷◌, length, refl, ap, arith}
+use Rattle.facts.specs.ResultSteps.{◌>>=◌}
+use Rattle.facts.proofs.ResultLaws.{bind_same_after}
 use Rattle.idl_parse.specs.KindSteps.{begins}
-use Rattle.idl_parse.specs.ReadSteps.{Stop, Read, Shrinks, ◌>>=◌, mark_at, until_in, until_at}
+use Rattle.idl_parse.specs.ReadSteps.{Read, Shrinks, mark_at, until_in, until_at}
 use Rattle.idl_parse.specs.declared.kind.Kind.TheVariants as kinds
 use Rattle.idl_parse.specs.declared.sign.Sign.{Sign}
 use Rattle.idl_parse.specs.declared.token.Token.{Token}
-
-pub bind_same : {A B : Type 0} (r : Result A Stop) (f g : A → Result B Stop) → ((x : A) → r ≡ Ok x → f x ≡ g x) → (r >>= f) ≡ (r >>= g)
-bind_same (Ok x) f g same = same x refl
-bind_same (Err s) f g same = refl
 
 pub cond_same : {A : Type 0} (b : Bool) (x y z : A) → y ≡ z → cond b x y ≡ cond b x z
 cond_same b x y z same = ap (cond b x) same
@@ -23,7 +21,7 @@ module _ {A : Type 0} (sign : Sign) (f : List Token → Read A) (shrinks : Shrin
   turn_same : (g h : List Token → Read (List A)) (ts : List Token) → ((rest : List Token) → length rest < length ts → g rest ≡ h rest) → one_turn sign f g ts ≡ one_turn sign f h ts
   turn_same g h ts same =
       cond_same (begins (kinds.Sign sign) ts) (mark_at sign ts >>= λ close. Ok ([], close.1)) (f ts >>= λ x. (g x.1 >>= λ xs. Ok (x.0 ∷ xs.0, xs.1))) (f ts >>= λ x. (h x.1 >>= λ xs. Ok (x.0 ∷ xs.0, xs.1)))
-      (bind_same (f ts) (λ x. (g x.1 >>= λ xs. Ok (x.0 ∷ xs.0, xs.1))) (λ x. (h x.1 >>= λ xs. Ok (x.0 ∷ xs.0, xs.1)))
+      (bind_same_after (f ts) (λ x. (g x.1 >>= λ xs. Ok (x.0 ∷ xs.0, xs.1))) (λ x. (h x.1 >>= λ xs. Ok (x.0 ∷ xs.0, xs.1)))
       (λ x is. ap (λ r. r >>= λ xs. Ok (x.0 ∷ xs.0, xs.1)) (same x.1 (shrinks ts x.0 x.1 is))))
 
   fuel_same : (a b : ℕ) (ts : List Token) → length ts < a → length ts < b → until_in a sign f ts ≡ until_in b sign f ts

@@ -15,9 +15,9 @@ use Rattle.idl_parse.proofs.Parsing.FaultLaws.{file_fault}
 use Rattle.idl_parse.proofs.Parsing.FileLaws.{file_sound, file_complete, entries_of, not_both}
 use Rattle.idl_parse.proofs.Parsing.OneFault.{one_fault}
 
-pub no_file : (end : ℕ) (ts : List Token) (halt : Halt) (fault : ParseFault) → Fails halt (file_at 16 ts) → IsFaultOf end halt fault → (entries : List Entry) → IsFile 16 ts entries → IsRead (Err fault) entries
-no_file end ts halts.Memory fault fails is entries file = subst (λ f. IsRead (Err f) entries) (sym is) tt
-no_file end ts (halts.At left why) fault fails is entries file = absurd (not_both (file_complete 15 ts entries file) fails)
+pub no_file : (end : ℕ) (ts left : List Token) (halt : Halt) (fault : ParseFault) → Fails halt left (file_at 16 ts) → IsFaultOf end left halt fault → (entries : List Entry) → IsFile 16 ts entries → IsRead (Err fault) entries
+no_file end ts left halts.Memory fault fails is entries file = subst (λ f. IsRead (Err f) entries) (sym is) tt
+no_file end ts left (halts.Grammar why) fault fails is entries file = absurd (not_both (file_complete 15 ts entries file) fails)
 
 -- where reading stops is the fault of the tokens
 fault_is : (end : ℕ) (ts left : List Token) (why : ParseWhy) → file_at 16 ts ≡ Err (record { left = left; why = why }) → IsFault 16 end ts (byte_of end left) why
@@ -25,18 +25,18 @@ fault_is end ts left why failed =
     let f = file_fault 15 ts left why failed in
     record { no_file = λ entries file. not_both (file_complete 15 ts entries file) failed; place = f.0; byte = ap (byte_of end) (sym f.1); stops = f.2 }
 
-pub true_fault : (text : List ℕ) (ts : List Token) (halt : Halt) (fault : ParseFault) → Fails halt (file_at 16 ts) → IsFaultOf (length text) halt fault → HasFault 16 text ts (Err fault)
-true_fault text ts halts.Memory fault fails is = subst (λ f. HasFault 16 text ts (Err f)) (sym is) tt
-true_fault text ts (halts.At left why) fault fails is = subst (λ g. HasFault 16 text ts (Err g)) (sym is) (fault_is (length text) ts left.now why fails)
+pub true_fault : (text : List ℕ) (ts left : List Token) (halt : Halt) (fault : ParseFault) → Fails halt left (file_at 16 ts) → IsFaultOf (length text) left halt fault → HasFault 16 text ts (Err fault)
+true_fault text ts left halts.Memory fault fails is = subst (λ f. HasFault 16 text ts (Err f)) (sym is) tt
+true_fault text ts left (halts.Grammar why) fault fails is = subst (λ g. HasFault 16 text ts (Err g)) (sym is) (fault_is (length text) ts left why fails)
 
 -- a fault that the tokens have is the one that is told
 told_fault : (text : List ℕ) (ts : List Token) (fault : ParseFault) → HasFault 16 text ts (Err fault) → (at : ℕ) (why : ParseWhy) → IsFault 16 (length text) ts at why → IsRefused (Err fault) at why
 told_fault text ts faults.Memory has at why is = tt
 told_fault text ts (faults.Bad place reason) has at why is = one_fault 16 (length text) ts place at reason why has is
 
-pub refused_fault : (text : List ℕ) (ts : List Token) (halt : Halt) (fault : ParseFault) → Fails halt (file_at 16 ts) → IsFaultOf (length text) halt fault
+pub refused_fault : (text : List ℕ) (ts left : List Token) (halt : Halt) (fault : ParseFault) → Fails halt left (file_at 16 ts) → IsFaultOf (length text) left halt fault
     → (at : ℕ) (why : ParseWhy) → IsFault 16 (length text) ts at why → IsRefused (Err fault) at why
-refused_fault text ts halt fault fails is at why has = told_fault text ts fault (true_fault text ts halt fault fails is) at why has
+refused_fault text ts left halt fault fails is at why has = told_fault text ts fault (true_fault text ts left halt fault fails is) at why has
 
 -- ---- one outcome
 

@@ -1,6 +1,6 @@
 -- What ties a reader to a relation of the grammar: it gives what the relation has; where it does not, it
 -- stops behind the longest front that some input of the relation goes on after, at whatever depth.
-use Rattle.std.proofs.Common.{◌≡◌, ℕ, suc, ◌<◌, ◌≤◌, Bool, true, false, cond, ◌&&◌, Option, Some, None, Result, Ok, Err, List, [], ◌∷◌, ◌++◌, length}
+use Rattle.std.proofs.Common.{◌≡◌, ℕ, suc, ◌<◌, ◌≤◌, Bool, true, false, cond, ◌&&◌, Option, Some, None, Result, Ok, Err, List, [], ◌∷◌, ◌++◌, length, arith}
 use Rattle.idl_parse.specs.Depth.{opened, Shallow}
 use Rattle.idl_parse.specs.KindSteps.{holds}
 use Rattle.idl_parse.specs.ReadSteps.{Stop, Read}
@@ -107,6 +107,57 @@ pub record Reads {A : Type 0} (k n limit a b : ℕ) (S : Shape) (D : Rel A) (f :
   pub stays : (tokens left : List Token) → length tokens < k → f n tokens ≡ halted left → Stayed n limit a S f tokens left
   pub deep : (tokens left : List Token) → length tokens < k → f n tokens ≡ too_deep left → Deep n limit a S f tokens left
   pub filled : Filled n S f
+
+-- ---- the same input, for another reader or by another shape
+
+module _ {A : Type 0} {n limit a : ℕ} {S : Shape} {f : Reader A} (o : ℕ) (T : Shape) (g : Reader A) where
+  pub kept_as : {b : ℕ} {tokens : List Token} {x : A} {rest : List Token} (h : Kept n limit a b S f tokens x rest)
+      → ((m : ℕ) → o ≤ m → (more : List Token) → (starts T.follow more ≡ true → head_of more ≡ head_of rest) → g m (h.front ++ more) ≡ Ok (x, more)) → Kept o limit a b T g tokens x rest
+  kept_as h again = record { front = h.front; whole = h.whole; again = again; shallow = h.shallow; open_behind = h.open_behind }
+
+  pub stayed_as : {tokens left : List Token} (h : Stayed n limit a S f tokens left) → (h.front ≡ [] → Fresh T h.more)
+      → ((m : ℕ) → o < m → (tail : List Token) → (starts T.follow tail ≡ true → ⊥) → g m (h.front ++ (h.more ++ tail)) ≡ Ok (h.value, tail))
+      → ((t : Token) (l : List Token) → left ≡ t ∷ l → (m : ℕ) → o ≤ m → (others : List Token) → g m (h.front ++ (t ∷ others)) ≡ halted (t ∷ others)) → Stayed o limit a T g tokens left
+  stayed_as h fresh fills stuck = record {
+    front = h.front;
+    whole = h.whole;
+    more = h.more;
+    value = h.value;
+    fresh = fresh;
+    fills = fills;
+    stuck = stuck;
+    shallow = h.shallow;
+  }
+
+  pub deep_as : {tokens left : List Token} (h : Deep n limit a S f tokens left)
+      → ((m : ℕ) → suc o < m → (tail : List Token) → (starts T.follow tail ≡ true → ⊥) → g m (h.front ++ (h.next ∷ (h.more ++ tail))) ≡ Ok (h.value, tail)) → Deep o limit a T g tokens left
+  deep_as h fills = record {
+    front = h.front;
+    next = h.next;
+    others = h.others;
+    whole = h.whole;
+    is = h.is;
+    more = h.more;
+    value = h.value;
+    fills = fills;
+    shallow = h.shallow;
+    open_behind = h.open_behind;
+  }
+
+pub filled_as : {A : Type 0} {n : ℕ} {S : Shape} {f : Reader A} (o : ℕ) (T : Shape) (g : Reader A) (h : Filled n S f) → Fresh T h.more → ((m : ℕ) → o < m → (tail : List Token) → (starts T.follow tail ≡ true → ⊥) → g m (h.more ++ tail) ≡ Ok (h.value, tail)) → Filled o T g
+filled_as o T g h fresh fills = record { more = h.more; value = h.value; fresh = fresh; fills = fills }
+
+-- no input is shorter than nothing
+pub of_no_length : {A : Type 0} {n limit a b : ℕ} {S : Shape} {D : Rel A} {f : Reader A} → Filled n S f → Reads 0 n limit a b S D f
+of_no_length filled = record {
+  sound = λ ts x rest lt. absurd (omega arith);
+  complete = λ ts x rest lt. absurd (omega arith);
+  begun = λ ts x rest lt. absurd (omega arith);
+  keeps = λ ts x rest lt. absurd (omega arith);
+  stays = λ ts left lt. absurd (omega arith);
+  deep = λ ts left lt. absurd (omega arith);
+  filled = filled;
+}
 
 pub core_of : {A : Type 0} {k n limit a b : ℕ} {S : Shape} {D : Rel A} {f : Reader A} → Reads k n limit a b S D f → Core k n S D f
 core_of r = record { begun = r.begun; filled = r.filled }

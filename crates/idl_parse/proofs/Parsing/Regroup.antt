@@ -2,7 +2,7 @@
 use Rattle.std.proofs.Common.{◌≡◌, ℕ, ◌≤◌, true, List, ◌∷◌, ◌++◌, sym, ◌∙◌, arith}
 use Rattle.idl_parse.specs.Rules.{Rel}
 use Rattle.idl_parse.specs.declared.token.Token.{Token}
-use Rattle.idl_parse.proofs.Parsing.Readers.{Reader, Shape, starts, Begun, has_some, has_none, Fresh, some_more, no_more, Reads}
+use Rattle.idl_parse.proofs.Parsing.Readers.{Reader, Shape, starts, Begun, has_some, has_none, Fresh, some_more, no_more, Reads, kept_as, stayed_as, deep_as, filled_as}
 
 pub same_relation : {A : Type 0} (k n limit a b : ℕ) (S : Shape) (D E : Rel A) (f : Reader A) → Reads k n limit a b S D f → ((ts : List Token) (x : A) (rest : List Token) → D ts x rest → E ts x rest) → ((ts : List Token) (x : A) (rest : List Token) → E ts x rest → D ts x rest) → Reads k n limit a b S E f
 same_relation k n limit a b S D E f r there back = record {
@@ -24,47 +24,18 @@ same_reader k n limit a b S D f g r is =
       begun = r.begun;
       keeps = λ ts x rest lt e.
           let h = r.keeps ts x rest lt (sym (is n here ts) ∙ e) in
-          record {
-            front = h.front;
-            whole = h.whole;
-            again = λ m le more ok. is m le (h.front ++ more) ∙ h.again m le more ok;
-            shallow = h.shallow;
-            open_behind = h.open_behind;
-          };
+          kept_as n S g h (λ m le more ok. is m le (h.front ++ more) ∙ h.again m le more ok);
       stays = λ ts left lt e.
           let h = r.stays ts left lt (sym (is n here ts) ∙ e) in
-          record {
-            front = h.front;
-            whole = h.whole;
-            more = h.more;
-            value = h.value;
-            fresh = h.fresh;
-            fills = λ m above tail free. is m (omega arith) (h.front ++ (h.more ++ tail)) ∙ h.fills m above tail free;
-            stuck = λ t l same m le others. is m le (h.front ++ (t ∷ others)) ∙ h.stuck t l same m le others;
-            shallow = h.shallow;
-          };
+          stayed_as n S g h h.fresh
+          (λ m above tail free. is m (omega arith) (h.front ++ (h.more ++ tail)) ∙ h.fills m above tail free)
+          (λ t l same m le others. is m le (h.front ++ (t ∷ others)) ∙ h.stuck t l same m le others);
       deep = λ ts left lt e.
           let h = r.deep ts left lt (sym (is n here ts) ∙ e) in
-          record {
-            front = h.front;
-            next = h.next;
-            others = h.others;
-            whole = h.whole;
-            is = h.is;
-            more = h.more;
-            value = h.value;
-            fills = λ m above tail free. is m (omega arith) (h.front ++ (h.next ∷ (h.more ++ tail))) ∙ h.fills m above tail free;
-            shallow = h.shallow;
-            open_behind = h.open_behind;
-          };
+          deep_as n S g h (λ m above tail free. is m (omega arith) (h.front ++ (h.next ∷ (h.more ++ tail))) ∙ h.fills m above tail free);
       filled =
           let h = r.filled in
-          record {
-            more = h.more;
-            value = h.value;
-            fresh = h.fresh;
-            fills = λ m above tail free. is m (omega arith) (h.more ++ tail) ∙ h.fills m above tail free;
-          };
+          filled_as n S g h h.fresh (λ m above tail free. is m (omega arith) (h.more ++ tail) ∙ h.fills m above tail free);
     }
 
 -- more kinds that it may begin with or that would go on with it
@@ -87,45 +58,14 @@ module _ (S T : Shape) (first : (ts : List Token) → starts S.first ts ≡ true
     begun = λ ts x rest lt d. begun_in ts rest (r.begun ts x rest lt d);
     keeps = λ ts x rest lt e.
         let h = r.keeps ts x rest lt e in
-        record {
-          front = h.front;
-          whole = h.whole;
-          again = λ m le more ok. h.again m le more (λ st. ok (follow more st));
-          shallow = h.shallow;
-          open_behind = h.open_behind;
-        };
+        kept_as n T f h (λ m le more ok. h.again m le more (λ st. ok (follow more st)));
     stays = λ ts left lt e.
         let h = r.stays ts left lt e in
-        record {
-          front = h.front;
-          whole = h.whole;
-          more = h.more;
-          value = h.value;
-          fresh = λ none. fresh_in h.more (h.fresh none);
-          fills = λ m above tail free. h.fills m above tail (free_in tail free);
-          stuck = h.stuck;
-          shallow = h.shallow;
-        };
+        stayed_as n T f h (λ none. fresh_in h.more (h.fresh none)) (λ m above tail free. h.fills m above tail (free_in tail free)) h.stuck;
     deep = λ ts left lt e.
         let h = r.deep ts left lt e in
-        record {
-          front = h.front;
-          next = h.next;
-          others = h.others;
-          whole = h.whole;
-          is = h.is;
-          more = h.more;
-          value = h.value;
-          fills = λ m above tail free. h.fills m above tail (free_in tail free);
-          shallow = h.shallow;
-          open_behind = h.open_behind;
-        };
+        deep_as n T f h (λ m above tail free. h.fills m above tail (free_in tail free));
     filled =
         let h = r.filled in
-        record {
-          more = h.more;
-          value = h.value;
-          fresh = fresh_in h.more h.fresh;
-          fills = λ m above tail free. h.fills m above tail (free_in tail free);
-        };
+        filled_as n T f h (fresh_in h.more h.fresh) (λ m above tail free. h.fills m above tail (free_in tail free));
   }

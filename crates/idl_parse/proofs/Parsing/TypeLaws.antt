@@ -1,5 +1,6 @@
 -- Types are read as the grammar has them, by the room that is left.
 use Rattle.std.proofs.Common.{◌≡◌, ℕ, zero, suc, ◌+◌, ◌<◌, ◌≤◌, Bool, true, false, cond, None, Ok, Err, List, [], ◌∷◌, ◌++◌, refl, sym, ap, ◌∙◌, arith, inl, inr}
+use Rattle.facts.proofs.ResultLaws.{bind_gave}
 use Rattle.idl_parse.specs.Grammar.{Mark, VectorOf, MapOf, UnsignedOf, NamedOf, BasicOf, TypeOf}
 use Rattle.idl_parse.specs.KindSteps.{same_kind, holds, begins}
 use Rattle.idl_parse.specs.ReadSteps.{Stop, Read, one_at, mark_at, place_at, means_at, behind_at, vector_at, map_at, flat_at, unsigned_at, named_at, scoped_at, basic_at, is_type_start, no_room_at, type_with, type_at}
@@ -17,10 +18,10 @@ use Rattle.idl_parse.specs.declared.tree.type_tree.TypeTree.{TypeTree}
 use Rattle.idl_parse.specs.declared.tree.type_tree.TypeTree.TheVariants as types
 use Rattle.idl_parse.proofs.Parsing.Choice.{one_kind, truth}
 use Rattle.idl_parse.proofs.Parsing.Combine.{next, done, either, regroup, next_core, done_core, one_core, regroup_core, next_where}
-use Rattle.idl_parse.proofs.Parsing.Heads.{begins_is, bind_ok}
+use Rattle.idl_parse.proofs.Parsing.Heads.{begins_is}
 use Rattle.idl_parse.proofs.Parsing.Leaves.{one, sample}
 use Rattle.idl_parse.proofs.Parsing.Literals.{basic_words, flat}
-use Rattle.idl_parse.proofs.Parsing.Readers.{Reader, halted, too_deep, Shape, starts, Fresh, some_more, Reads, core_of}
+use Rattle.idl_parse.proofs.Parsing.Readers.{Reader, halted, too_deep, Shape, starts, Fresh, some_more, Reads, core_of, kept_as, stayed_as, deep_as, filled_as}
 
 abbrev pub type_words : List Kind
 type_words = kinds.Keyword words.Vector ∷ kinds.Keyword words.Map ∷ kinds.Keyword words.Unsigned ∷ kinds.Ident ∷ basic_words
@@ -35,7 +36,7 @@ module _ (k n limit a : ℕ) (within : a < limit) (Inner : Rel TypeTree) (inner 
   opening = let r = next refl (one k n limit a (suc a) (kinds.Sign Less) within refl) (λ _. inside) in r
 
   room_behind : (ts : List Token) (x : TypeTree) (rest : List Token) → behind_at Less (inner n) ts ≡ Ok (x, rest) → suc a < limit
-  room_behind ts x rest e = let p = bind_ok (mark_at Less ts) (λ mark. inner n mark.1) (x, rest) e in room p.0.1 x rest p.2
+  room_behind ts x rest e = let p = bind_gave (mark_at Less ts) (λ mark. inner n mark.1) (x, rest) e in room p.0.1 x rest p.2
 
   vector : Reads k n limit a a (one_kind (kinds.Keyword words.Vector) []) (VectorOf Inner) (λ m. vector_at (inner m))
   unfolding vector_at holds same_kind
@@ -252,47 +253,18 @@ deeper k n limit a b S D f r = record {
   begun = r.begun;
   keeps = λ ts x rest lt e.
       let h = r.keeps ts x rest lt e in
-      record {
-        front = h.front;
-        whole = h.whole;
-        again = λ m le more ok. let p = above m n le in rw p.1 (h.again p.0 p.2 more ok);
-        shallow = h.shallow;
-        open_behind = h.open_behind;
-      };
+      kept_as (suc n) S f h (λ m le more ok. let p = above m n le in rw p.1 (h.again p.0 p.2 more ok));
   stays = λ ts left lt e.
       let h = r.stays ts left lt e in
-      record {
-        front = h.front;
-        whole = h.whole;
-        more = h.more;
-        value = h.value;
-        fresh = h.fresh;
-        fills = λ m lt tail free. let p = above m (suc n) lt in rw p.1 (h.fills p.0 p.2 tail free);
-        stuck = λ t l is m le others. let p = above m n le in rw p.1 (h.stuck t l is p.0 p.2 others);
-        shallow = h.shallow;
-      };
+      stayed_as (suc n) S f h h.fresh
+      (λ m lt tail free. let p = above m (suc n) lt in rw p.1 (h.fills p.0 p.2 tail free))
+      (λ t l is m le others. let p = above m n le in rw p.1 (h.stuck t l is p.0 p.2 others));
   deep = λ ts left lt e.
       let h = r.deep ts left lt e in
-      record {
-        front = h.front;
-        next = h.next;
-        others = h.others;
-        whole = h.whole;
-        is = h.is;
-        more = h.more;
-        value = h.value;
-        fills = λ m lt tail free. let p = above m (suc (suc n)) lt in rw p.1 (h.fills p.0 p.2 tail free);
-        shallow = h.shallow;
-        open_behind = h.open_behind;
-      };
+      deep_as (suc n) S f h (λ m lt tail free. let p = above m (suc (suc n)) lt in rw p.1 (h.fills p.0 p.2 tail free));
   filled =
       let h = r.filled in
-      record {
-        more = h.more;
-        value = h.value;
-        fresh = h.fresh;
-        fills = λ m lt tail free. let p = above m (suc n) lt in rw p.1 (h.fills p.0 p.2 tail free);
-      };
+      filled_as (suc n) S f h h.fresh (λ m lt tail free. let p = above m (suc n) lt in rw p.1 (h.fills p.0 p.2 tail free));
 }
   where
     above : (m n : ℕ) → suc n ≤ m → (p : ℕ) × (m ≡ suc p) × (n ≤ p)

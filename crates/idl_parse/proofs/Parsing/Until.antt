@@ -8,13 +8,13 @@ use Rattle.idl_parse.specs.declared.kind.Kind.{Kind}
 use Rattle.idl_parse.specs.declared.kind.Kind.TheVariants as kinds
 use Rattle.idl_parse.specs.declared.sign.Sign.{Sign}
 use Rattle.idl_parse.specs.declared.token.Token.{Token}
-use Rattle.idl_parse.proofs.Parsing.Choice.{one_kind, choice, begins_by_start, take_first, fresh_starts}
-use Rattle.idl_parse.proofs.Parsing.Heads.{apart, starts_left}
+use Rattle.idl_parse.proofs.Parsing.Choice.{one_kind, choice, filled_by_first}
+use Rattle.idl_parse.proofs.Parsing.Heads.{apart}
 use Rattle.idl_parse.proofs.Parsing.InOrder.{then, in_order}
 use Rattle.idl_parse.proofs.Parsing.Leaves.{giving, nothing, gives, single, one}
 use Rattle.idl_parse.specs.ReadSteps.{Shrinks}
 use Rattle.idl_parse.proofs.Parsing.Loops.{one_turn, until_turn}
-use Rattle.idl_parse.proofs.Parsing.Readers.{Reader, Shape, seq, Begun, has_some, has_none, Fresh, some_more, no_more, Filled, Reads}
+use Rattle.idl_parse.proofs.Parsing.Readers.{Reader, Shape, seq, Begun, has_some, has_none, Filled, Reads, of_no_length}
 use Rattle.idl_parse.proofs.Parsing.Regroup.{same_relation, same_reader}
 
 abbrev pub Until : {A : Type 0} → Sign → Rel A → Rel (List A)
@@ -88,30 +88,9 @@ module _ {A : Type 0} (sign : Sign) (first follow : List Kind) (P : ℕ → Rel 
 
   filled : (n : ℕ) → Filled (suc n) (until_shape sign first) (λ m. until_at sign (f m))
   filled n =
-      let h = (closing 0 n).filled in
-      record {
-        more = h.more;
-        value = h.value;
-        fresh = wide h.more h.fresh;
-        fills = λ m above tail free.
-            until_turn sign (f m) (shrinks m n (omega arith)) (h.more ++ tail)
-            ∙ take_first (kinds.Sign sign) (then (λ m. mark_at sign) (λ _. giving [])) (then f (λ x. then (λ m. until_at sign (f m)) (λ xs. giving (x ∷ xs)))) m (h.more ++ tail) (Ok (h.value, tail))
-            (begins_by_start (kinds.Sign sign) (h.more ++ tail) (fresh_starts (one_kind (kinds.Sign sign) []) h.more tail refl h.fresh))
-            (h.fills m above tail free);
-      }
-    where
-      wide : (ts : List Token) → Fresh (one_kind (kinds.Sign sign) []) ts → Fresh (until_shape sign first) ts
-      wide ts (some_more st) = some_more (starts_left (kinds.Sign sign ∷ []) (first ++ []) ts st)
-      wide ts (no_more e is) = cc
+      filled_by_first (suc n) (kinds.Sign sign) [] (first ++ []) false (then (λ m. mark_at sign) (λ _. giving [])) (then f (λ x. then (λ m. until_at sign (f m)) (λ xs. giving (x ∷ xs)))) (λ m. until_at sign (f m))
+      (closing 0 n).filled (λ m above ts. until_turn sign (f m) (shrinks m n (omega arith)) ts)
 
   pub until : (k n : ℕ) → Reads k (suc n) (suc n) 0 0 (until_shape sign first) (Until sign (P (suc n))) (λ m. until_at sign (f m))
-  until zero n = record {
-    sound = λ ts x rest lt. absurd (omega arith);
-    complete = λ ts x rest lt. absurd (omega arith);
-    begun = λ ts x rest lt. absurd (omega arith);
-    keeps = λ ts x rest lt. absurd (omega arith);
-    stays = λ ts left lt. absurd (omega arith);
-    deep = λ ts left lt. absurd (omega arith);
-    filled = filled n;
-  }
+  until zero n = of_no_length (filled n)
   until (suc k) n = turn k n (until k n)

@@ -1,14 +1,13 @@
 //! Items one after the other, up to a closing sign.
 
 ghost use Rattle.std.specs.Prelude.{◌≡◌, List as Listed};
-ghost use Rattle.idl_parse.specs.ReadSteps.{Read, Returns, Shrinks, until_at, with_front};
+ghost use Rattle.idl_parse.specs.ReadSteps.{Read, Reads, Shrinks, until_at, with_front};
 ghost use Rattle.idl_parse.specs.declared.token.Token.{Token as Found};
 
 use super::halt::Halt;
-use super::token::{begins, one};
+use super::tokens::Tokens;
 use crate::kind::Kind;
 use crate::sign::Sign;
-use crate::token::Token;
 use std::alloc::Global;
 use tars_model::List;
 
@@ -16,8 +15,8 @@ use tars_model::List;
 pub(super) trait Item: Drop {
     ghost reading: { Listed Found → Read Self };
 
-    fn read(alloc: Global, tokens: &[Token]) -> Result<(Self, &[Token]), Halt<'_>>
-        ensures { Returns (λ x. (x.0, x.1.now)) result (reading tokens.now) };
+    fn read(alloc: Global, tokens: &mut Tokens<'_>) -> Result<Self, Halt>
+        ensures { Reads result tokens.new (reading tokens.old) };
 }
 
 /// The items up to the closing sign, each of which takes a token, after those that were read before.
@@ -25,20 +24,18 @@ pub(super) fn until_after<T: Item>(
     alloc: Global,
     close: Sign,
     before: List<T>,
-    tokens: &[Token],
-) -> Result<(List<T>, &[Token]), Halt<'_>>
+    tokens: &mut Tokens<'_>,
+) -> Result<List<T>, Halt>
     requires { Shrinks T.reading }
-    ensures { Returns (λ x. (x.0, x.1.now)) result (with_front before (until_at close T.reading tokens.now)) }
+    ensures { Reads result tokens.new (with_front before (until_at close T.reading tokens.old)) }
 {
     let mut items = before;
-    let mut rest = tokens;
-    'items: while !begins(Kind::Sign(close), rest) {
-        let (item, after) = T::read(alloc, rest)?;
+    'items: while !tokens.sees(Kind::Sign(close)) {
+        let item = T::read(alloc, tokens)?;
         items.push(item)?;
-        rest = after;
     }
-    let (_, rest) = one(Kind::Sign(close), rest)?;
-    Ok((items, rest))
+    tokens.expect(Kind::Sign(close))?;
+    Ok(items)
 }
 
 /// The items up to the closing sign, each of which takes a token.
@@ -46,10 +43,10 @@ pub(super) fn until_after<T: Item>(
 pub(super) fn until<T: Item>(
     alloc: Global,
     close: Sign,
-    tokens: &[Token],
-) -> Result<(List<T>, &[Token]), Halt<'_>>
+    tokens: &mut Tokens<'_>,
+) -> Result<List<T>, Halt>
     requires { Shrinks T.reading }
-    ensures { Returns (λ x. (x.0, x.1.now)) result (until_at close T.reading tokens.now) }
+    ensures { Reads result tokens.new (until_at close T.reading tokens.old) }
 {
     until_after(alloc, close, List::new(alloc), tokens)
 }

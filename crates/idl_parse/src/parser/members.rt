@@ -1,18 +1,15 @@
 ghost use Rattle.std.specs.Prelude.{◌≡◌};
 ghost use Rattle.idl_parse.specs.Grammar.{nesting_limit};
-ghost use Rattle.idl_parse.specs.ReadSteps.{Returns, means_at, array_at, maybe_at, default_at, member_end_at, member_at, ended_at, members_at};
+ghost use Rattle.idl_parse.specs.ReadSteps.{Reads, means_at, member_end_at, member_at, ended_at, members_at};
 ghost use Rattle.idl_parse.specs.Words.{requirement_of};
-ghost use Rattle.idl_parse.specs.declared.kind.Kind.TheVariants.{Sign as sign_kind};
-ghost use Rattle.idl_parse.specs.declared.sign.Sign.TheVariants.{OpenBracket as open_bracket, Equals as equals};
 
 use super::halt::Halt;
 use super::items::{Item, until};
-use super::names::{array, default};
-use super::token::{begins, one, place};
-use super::types::{MAX_NESTING, typed};
+use super::names::{array, literal};
+use super::tokens::Tokens;
+use super::types::typed;
 use crate::keyword::Keyword;
 use crate::kind::Kind;
-use crate::parse_fault::ParseWhy;
 use crate::sign::Sign;
 use crate::token::Token;
 use crate::tree::{ArrayLen, Literal, MemberTree, Requirement};
@@ -32,98 +29,65 @@ fn requirement_of(kind: Kind) -> Option<Requirement>
 
 /// `require` or `optional`
 #[tactic(auto, unfolding(crate::specs::ReadSteps::means_at))]
-fn requirement(tokens: &[Token]) -> Result<((Token, Requirement), &[Token]), Halt<'_>>
-    ensures { Returns (λ x. (x.0, x.1.now)) result (means_at requirement_of tokens.now) }
+fn requirement(tokens: &mut Tokens<'_>) -> Result<(Token, Requirement), Halt>
+    ensures { Reads result tokens.new (means_at requirement_of tokens.old) }
 {
-    let [word, rest @ ..] = tokens else {
-        return Err(Halt::At {
-            left: tokens,
-            why: ParseWhy::Unexpected,
-        });
-    };
-    let Some(requirement) = requirement_of(word.kind) else {
-        return Err(Halt::At {
-            left: tokens,
-            why: ParseWhy::Unexpected,
-        });
-    };
-    Ok(((*word, requirement), rest))
-}
-
-fn maybe_array(tokens: &[Token]) -> Result<(Option<ArrayLen>, &[Token]), Halt<'_>>
-    ensures { Returns (λ x. (x.0, x.1.now)) result (maybe_at (sign_kind open_bracket) array_at tokens.now) }
-{
-    if !begins(Kind::Sign(Sign::OpenBracket), tokens) {
-        return Ok((None, tokens));
-    }
-    let (array, rest) = array(tokens)?;
-    Ok((Some(array), rest))
-}
-
-fn maybe_default(tokens: &[Token]) -> Result<(Option<Literal>, &[Token]), Halt<'_>>
-    ensures { Returns (λ x. (x.0, x.1.now)) result (maybe_at (sign_kind equals) default_at tokens.now) }
-{
-    if !begins(Kind::Sign(Sign::Equals), tokens) {
-        return Ok((None, tokens));
-    }
-    let (literal, rest) = default(tokens)?;
-    Ok((Some(literal), rest))
+    let word = tokens.first()?;
+    let requirement = requirement_of(word.kind).ok_or(tokens.unexpected())?;
+    tokens.skip();
+    Ok((word, requirement))
 }
 
 /// `[ array ] [ = literal ]`
-#[tactic(auto, unfolding(crate::specs::ReadSteps::member_end_at))]
-fn member_end(tokens: &[Token]) -> Result<((Option<ArrayLen>, Option<Literal>), &[Token]), Halt<'_>>
-    ensures { Returns (λ x. (x.0, x.1.now)) result (member_end_at tokens.now) }
+#[tactic(auto, unfolding(crate::specs::ReadSteps::member_end_at, crate::specs::ReadSteps::default_at))]
+fn member_end(tokens: &mut Tokens<'_>) -> Result<(Option<ArrayLen>, Option<Literal>), Halt>
+    ensures { Reads result tokens.new (member_end_at tokens.old) }
 {
-    let (array, rest) = maybe_array(tokens)?;
-    let (default, rest) = maybe_default(rest)?;
-    Ok(((array, default), rest))
+    let array = if tokens.sees(Kind::Sign(Sign::OpenBracket)) {
+        Some(array(tokens)?)
+    } else {
+        None
+    };
+    let default = if tokens.eat(Kind::Sign(Sign::Equals)) {
+        Some(literal(tokens)?)
+    } else {
+        None
+    };
+    Ok((array, default))
 }
 
 #[tactic(auto, unfolding(crate::specs::ReadSteps::member_at))]
-fn member(alloc: Global, tokens: &[Token]) -> Result<(MemberTree, &[Token]), Halt<'_>>
-    ensures { Returns (λ x. (x.0, x.1.now)) result (member_at nesting_limit tokens.now) }
+fn member(alloc: Global, tokens: &mut Tokens<'_>) -> Result<MemberTree, Halt>
+    ensures { Reads result tokens.new (member_at nesting_limit tokens.old) }
 {
-    let (tag, rest) = place(Kind::Number, tokens)?;
-    let ((_, requirement), rest) = requirement(rest)?;
-    let (typed, rest) = typed(alloc, rest)?;
-    let ((array, default), rest) = member_end(rest)?;
-    Ok((
-        MemberTree {
-            tag,
-            requirement,
-            typed,
-            array,
-            default,
-        },
-        rest,
-    ))
-}
-
-/// `member ;`
-fn ended_member(alloc: Global, tokens: &[Token]) -> Result<(MemberTree, &[Token]), Halt<'_>>
-    ensures { Returns (λ x. (x.0, x.1.now)) result (ended_at (member_at nesting_limit) tokens.now) }
-{
-    let (member, rest) = member(alloc, tokens)?;
-    let (_, rest) = one(Kind::Sign(Sign::Semicolon), rest)?;
-    Ok((member, rest))
+    let tag = tokens.span(Kind::Number)?;
+    let (_, requirement) = requirement(tokens)?;
+    let typed = typed(alloc, tokens)?;
+    let (array, default) = member_end(tokens)?;
+    Ok(MemberTree {
+        tag,
+        requirement,
+        typed,
+        array,
+        default,
+    })
 }
 
 impl Item for MemberTree {
     ghost reading = { ended_at (member_at nesting_limit) };
 
-    fn read(alloc: Global, tokens: &[Token]) -> Result<(MemberTree, &[Token]), Halt<'_>> {
-        ended_member(alloc, tokens)
+    /// `member ;`
+    fn read(alloc: Global, tokens: &mut Tokens<'_>) -> Result<MemberTree, Halt> {
+        let member = member(alloc, tokens)?;
+        tokens.expect(Kind::Sign(Sign::Semicolon))?;
+        Ok(member)
     }
 }
 
 /// `{ member ; } }`
 #[tactic(auto, using(crate::proofs::Parsing::Turns::member_turn), unfolding(crate::specs::ReadSteps::members_at))]
-pub(super) fn members(
-    alloc: Global,
-    tokens: &[Token],
-) -> Result<(List<MemberTree>, &[Token]), Halt<'_>>
-    ensures { Returns (λ x. (x.0, x.1.now)) result (members_at nesting_limit tokens.now) }
+pub(super) fn members(alloc: Global, tokens: &mut Tokens<'_>) -> Result<List<MemberTree>, Halt>
+    ensures { Reads result tokens.new (members_at nesting_limit tokens.old) }
 {
     until(alloc, Sign::CloseBrace, tokens)
 }

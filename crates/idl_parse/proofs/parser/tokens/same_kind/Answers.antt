@@ -1,6 +1,6 @@
 use Rattle.std.proofs.Common.{rules, ◌≡◌, IsTrue, ◌↔◌}
 use Rattle.idl_parse.proofs.Parsing.KindLaws.{same_kind_told}
-use Rattle.idl_parse.proofs.parser.token.same_kind.Goals as goal
+use Rattle.idl_parse.proofs.parser.tokens.same_kind.Goals as goal
 
 pub returns : goal.returns
 returns c =
