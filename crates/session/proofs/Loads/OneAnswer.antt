@@ -1,5 +1,5 @@
 -- Whatever the files are, loading a script gives one answer, and no other.
-use Rattle.std.proofs.Common.{◌≡◌, ◌⊎◌, inl, inr, ℕ, List, [], Option, Some, None, refl, sym, ap, subst, ◌∙◌}
+use Rattle.std.proofs.Common.{◌≡◌, ◌⊎◌, inl, inr, ℕ, List, Option, Some, None, refl, sym, ap, subst, ◌∙◌}
 use Rattle.tars_base.specs.Contents.{Contents, HoldsOnly}
 use Rattle.session.specs.InterfaceFile.{InterfaceText, Verdict, accepted, IsJudged}
 use Rattle.session.specs.InterfaceFile as verdict
@@ -11,7 +11,7 @@ use Rattle.session.specs.declared.refused_text.ScriptFault.TheVariants.{Form, Va
 use Rattle.session.specs.Loading.{no_script, bad_script, no_interface, bad_interface, bad_value, session}
 use Rattle.script_text.specs.ScriptText.{ScriptText, IsScriptText}
 use Rattle.facts.proofs.OptionLaws.{some_is}
-use Rattle.session.proofs.Loads.OneScript.{Alike, scripts_alike, some_script}
+use Rattle.session.proofs.Loads.OneScript.{scripts_alike, some_script}
 use Rattle.session.proofs.Loads.OneSession.{some_agreement, agree_alike, loaded_alike}
 use Rattle.session.proofs.Loads.OneVerdict.{one_verdict}
 

@@ -6,7 +6,7 @@ use Rattle.std.proofs.lemmas.Slice.Eq.{bytes_eq-Decides}
 use Rattle.session_model.specs.declared.loaded.Event.{Event}
 use Rattle.session.specs.InterfaceFile.{InterfaceText}
 use Rattle.session.specs.Loading.{Agree, IsParameter, IsEventOf, events_from, loaded_of}
-use Rattle.script_text.specs.Reading.{EventValue, event_meant}
+use Rattle.script_text.specs.Reading.{event_meant}
 use Rattle.script_text.specs.ScriptText.{ScriptText, EventText}
 use Rattle.session.specs.SessionSteps.{index_in, events_in}
 use Rattle.session.proofs.Loads.OneScript.{Alike}
