@@ -46,11 +46,11 @@ impl Lines {
     }
 
     /// Adds what `{}` prints.
-    pub fn show<D: Display + Drop>(&mut self, piece: D) -> Result<(), AllocError>
-        ensures { OnOk result (AppendsText self.old self.new (D.output piece)) }
+    pub fn show<D: Display + Drop>(&mut self, value: D) -> Result<(), AllocError>
+        ensures { OnOk result (AppendsText self.old self.new (D.output value)) }
     {
-        let piece = piece.to_string(self.alloc)?;
-        self.put(piece.as_bytes())
+        let text = value.to_string(self.alloc)?;
+        self.put(text.as_bytes())
     }
 
     /// Adds bytes in hexadecimal.

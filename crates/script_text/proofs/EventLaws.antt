@@ -13,8 +13,8 @@ use Rattle.script_text.specs.TextLimits.{MAX_LINE}
 use Rattle.script_text.specs.ScriptText as script
 use Rattle.script_text.specs.ScriptSteps.{call_on, event_on, short, events_on}
 use Rattle.facts.proofs.OptionLaws.{bind_some, bind_is, some_is}
-use Rattle.script_text.proofs.Readers.{IsWhole, skip_whole, before_front, and_whole, map_whole}
-use Rattle.script_text.proofs.Names.{lacks_from, name_before_front}
+use Rattle.script_text.proofs.Readers.{IsWhole, skip_whole, before_prefix, and_whole, map_whole}
+use Rattle.script_text.proofs.Names.{lacks_from, name_before_prefix}
 use Rattle.script_text.proofs.Numbers.{number_whole, number_lacks}
 use Rattle.script_text.proofs.Lines.{IsPlain}
 use Rattle.script_text.proofs.LineReaders.{short_takes, short_again}
@@ -36,8 +36,8 @@ call_meant c = value.call c.0 (int_of c.1.0) (int_of c.1.1)
 call_whole : IsWhole call_on call_written IsCall call_meant
 unfolding call_on
 call_whole =
-    let first = before_front 32 [] number_whole (λ text is. number_lacks 32 text refl refl is) in
-    map_whole (λ parts. value.call parts.0 parts.1.0 parts.1.1) (skip_whole (codes "call 1 ") (and_whole (name_before_front 32 [] refl) (and_whole first number_whole)))
+    let first = before_prefix 32 [] number_whole (λ text is. number_lacks 32 text refl refl is) in
+    map_whole (λ parts. value.call parts.0 parts.1.0 parts.1.1) (skip_whole (codes "call 1 ") (and_whole (name_before_prefix 32 [] refl) (and_whole first number_whole)))
 
 call_written_is : (func a b : List ℕ) → call_written (func, (a, b)) ≡ event_line (script.call func a b)
 unfolding event_line
@@ -55,11 +55,11 @@ abbrev Says : List ℕ → EventValue → Type 0
 Says line v = (t : EventText) × (line ≡ event_line t) × IsEvent t × (v ≡ event_meant t)
 
 -- a line that is one word of these
-said : (line word : List ℕ) (t : EventText) (v : EventValue) → bytes_eq line word ≡ true → Some (event_meant t) ≡ Some v → word ≡ event_line t → IsEvent t → Says line v
-said line word t v test read written is = (t, (bytes_eq-Decides line word).0 test ∙ written, is, sym (some_is (event_meant t) v read))
+word_says : (line word : List ℕ) (t : EventText) (v : EventValue) → bytes_eq line word ≡ true → Some (event_meant t) ≡ Some v → word ≡ event_line t → IsEvent t → Says line v
+word_says line word t v test read written is = (t, (bytes_eq-Decides line word).0 test ∙ written, is, sym (some_is (event_meant t) v read))
 
-call_said : (line : List ℕ) (v : EventValue) → call_on line ≡ Some v → Says line v
-call_said line v e =
+call_says : (line : List ℕ) (v : EventValue) → call_on line ≡ Some v → Says line v
+call_says line v e =
     let c = call_whole.takes line v e in
     (script.call c.0.0 c.0.1.0 c.0.1.1, c.1 ∙ call_written_is c.0.0 c.0.1.0 c.0.1.1, (c.2.0, c.2.1.0, c.2.1.1), c.3)
 
@@ -67,14 +67,14 @@ event_takes : (line : List ℕ) (v : EventValue) → event_on line ≡ Some v �
 unfolding event_on event_line
 event_takes line v e =
     elim (choice (bytes_eq line (codes "serve 1")) _ _ (Some v) e) [
-      | inl is ↦ said line (codes "serve 1") script.serve v is.0 is.1 refl tt
+      | inl is ↦ word_says line (codes "serve 1") script.serve v is.0 is.1 refl tt
       | inr other ↦ elim (choice (bytes_eq line (codes "work 1")) _ _ (Some v) other.1) [
-        | inl is ↦ said line (codes "work 1") script.work v is.0 is.1 refl tt
+        | inl is ↦ word_says line (codes "work 1") script.work v is.0 is.1 refl tt
         | inr other ↦ elim (choice (bytes_eq line (codes "deliver 1")) _ _ (Some v) other.1) [
-          | inl is ↦ said line (codes "deliver 1") script.deliver v is.0 is.1 refl tt
+          | inl is ↦ word_says line (codes "deliver 1") script.deliver v is.0 is.1 refl tt
           | inr other ↦ elim (choice (bytes_eq line (codes "close")) _ _ (Some v) other.1) [
-            | inl is ↦ said line (codes "close") script.close v is.0 is.1 refl tt
-            | inr other ↦ call_said line v other.1
+            | inl is ↦ word_says line (codes "close") script.close v is.0 is.1 refl tt
+            | inr other ↦ call_says line v other.1
           ]
         ]
       ]

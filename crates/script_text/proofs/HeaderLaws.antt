@@ -8,11 +8,11 @@ use Rattle.std.proofs.lemmas.List.Folds.{list_all-append}
 use Rattle.script_text.specs.Words.{is_letter, IsName, IsNaturalWithin}
 use Rattle.script_text.specs.ScriptText.{IsFileName, IsWordOf, is_part_byte, is_host_byte}
 use Rattle.script_text.specs.TextLimits.{MAX_PORT, MAX_TIMEOUT, MAX_LINE}
-use Rattle.script_text.specs.Scan.{utf8, before, ◌&>◌}
+use Rattle.script_text.specs.ScanSteps.{utf8, before, ◌&>◌}
 use Rattle.script_text.specs.ScriptSteps.{is_word_of, is_file_byte, file_name, client_at, interface_at, servant_at, part, host, id, node, object_at, HeaderValue, header_from, header_at}
 use Rattle.facts.proofs.OptionLaws.{chosen, bind_some, bind_is, some_is}
-use Rattle.script_text.proofs.Readers.{lacks, IsWhole, tested_whole, skip_whole, before_front, and_whole}
-use Rattle.script_text.proofs.Names.{lacks_from, name_whole, name_before_front}
+use Rattle.script_text.proofs.Readers.{lacks, IsWhole, tested_whole, skip_whole, before_prefix, and_whole}
+use Rattle.script_text.proofs.Names.{lacks_from, name_whole, name_before_prefix}
 use Rattle.script_text.proofs.Texts.{utf8_takes, utf8_again}
 use Rattle.script_text.proofs.Numbers.{natural_lacks, natural_within_whole}
 use Rattle.script_text.proofs.Lines.{IsPlain}
@@ -61,7 +61,7 @@ part_lacks c word other is = lacks_from is_part_byte c word other is.each
 
 parts_whole : IsWhole (before (codes ".") part &> (before (codes ".") part &> part)) id_written AreParts (λ (p : Parts). p)
 parts_whole =
-    let point = before_front 46 [] part_whole (λ word is. part_lacks 46 word refl is) in
+    let point = before_prefix 46 [] part_whole (λ word is. part_lacks 46 word refl is) in
     and_whole point (and_whole point part_whole)
 
 id_whole : IsWhole id id_written AreParts id_written
@@ -98,9 +98,9 @@ node_meant n = (n.0, (digits_value 10 n.1.0, digits_value 10 n.1.1))
 node_whole : IsWhole node node_written IsNode node_meant
 unfolding node
 node_whole =
-    let host_front = before_front 32 (codes "-p ") host_whole (λ word is. lacks_from is_host_byte 32 word refl is.each) in
-    let port_front = before_front 32 (codes "-t ") (natural_within_whole 1 MAX_PORT (omega arith)) (λ text is. natural_lacks 32 text refl is.form) in
-    and_whole host_front (and_whole port_front (natural_within_whole 1 MAX_TIMEOUT (omega arith)))
+    let host_prefix = before_prefix 32 (codes "-p ") host_whole (λ word is. lacks_from is_host_byte 32 word refl is.each) in
+    let port_prefix = before_prefix 32 (codes "-t ") (natural_within_whole 1 MAX_PORT (omega arith)) (λ text is. natural_lacks 32 text refl is.form) in
+    and_whole host_prefix (and_whole port_prefix (natural_within_whole 1 MAX_TIMEOUT (omega arith)))
 
 -- ---- the four lines
 
@@ -139,9 +139,9 @@ pub header_read : IsLines header_at header_lines IsHeader header_meant
 unfolding header_at client_at interface_at object_at servant_at
 header_read =
     let client = skip_whole (codes "client ") file_name_whole in
-    let interface = skip_whole (codes "interface ") (and_whole (name_before_front 58 (codes ":") refl) name_whole) in
-    let object = skip_whole (codes "object ") (and_whole (before_front 64 (codes "tcp -h ") id_whole (λ p are. id_lacks 64 p refl refl are)) node_whole) in
-    let servant = skip_whole (codes "servant ") (and_whole (name_before_front 32 (codes "add ") refl) (and_whole (name_before_front 32 [] refl) name_whole)) in
+    let interface = skip_whole (codes "interface ") (and_whole (name_before_prefix 58 (codes ":") refl) name_whole) in
+    let object = skip_whole (codes "object ") (and_whole (before_prefix 64 (codes "tcp -h ") id_whole (λ p are. id_lacks 64 p refl refl are)) node_whole) in
+    let servant = skip_whole (codes "servant ") (and_whole (name_before_prefix 32 (codes "add ") refl) (and_whole (name_before_prefix 32 [] refl) name_whole)) in
     map_lines header_from (and_lines (line_lines client) (and_lines (line_lines interface) (and_lines (line_lines object) (line_lines servant))))
 
 -- ---- the lines are plain

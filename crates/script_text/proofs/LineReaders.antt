@@ -2,15 +2,15 @@
 use Rattle.std.proofs.Common.{◌≡◌, ℕ, ◌<◌, ◌≤◌, true, leb, ltb, List, [], ◌∷◌, ◌++◌, length, Some, None, refl, sym, ap, subst, ◌∙◌, append_assoc, arith, inl, inr}
 use Rattle.std.proofs.lemmas.Bool.{cases_Bool, lt-ltb, leb-true, le-leb, cond-true}
 use Rattle.facts.specs.OptionSteps.{◌>>=◌}
-use Rattle.script_text.specs.Scan.{Whole, Front, ◌&◌}
+use Rattle.script_text.specs.ScanSteps.{Whole, Prefix, ◌&◌}
 use Rattle.script_text.specs.TextLimits.{MAX_LINE}
 use Rattle.script_text.specs.ScriptSteps.{line_at, on_line, lines_of, short}
 use Rattle.facts.proofs.OptionLaws.{chosen, bind_some, bind_is, some_is}
 use Rattle.script_text.proofs.Readers.{IsWhole}
-use Rattle.script_text.proofs.Lines.{first_line, behind_line, lines_of_first}
+use Rattle.script_text.proofs.Lines.{first_line, after_line, lines_of_first}
 
 -- a line that is read is the first one, unless it is too long
-pub on_line_is : {V : Type 0} (read : Whole V) (bytes : List ℕ) → 0 < length bytes → on_line read bytes ≡ (short read (first_line bytes) >>= λ v. Some (v, behind_line bytes))
+pub on_line_is : {V : Type 0} (read : Whole V) (bytes : List ℕ) → 0 < length bytes → on_line read bytes ≡ (short read (first_line bytes) >>= λ v. Some (v, after_line bytes))
 unfolding line_at
 on_line_is read bytes h =
     let some : ltb 0 (length bytes) ≡ true = lt-ltb 0 (length bytes) h in
@@ -19,15 +19,15 @@ on_line_is read bytes h =
       | inr long ↦ rw (some, long) refl
     ]
 
-on_line_gives : {V : Type 0} (read : Whole V) (bytes : List ℕ) (v : V) → 0 < length bytes → short read (first_line bytes) ≡ Some v → on_line read bytes ≡ Some (v, behind_line bytes)
-on_line_gives read bytes v h e = on_line_is read bytes h ∙ bind_is _ (λ v. Some (v, behind_line bytes)) v e
+on_line_gives : {V : Type 0} (read : Whole V) (bytes : List ℕ) (v : V) → 0 < length bytes → short read (first_line bytes) ≡ Some v → on_line read bytes ≡ Some (v, after_line bytes)
+on_line_gives read bytes v h e = on_line_is read bytes h ∙ bind_is _ (λ v. Some (v, after_line bytes)) v e
 
 on_line_none : {V : Type 0} (read : Whole V) (x : V × List ℕ) → on_line read [] ≡ Some x → ⊥
 unfolding line_at
 on_line_none read x e = cc
 
--- a reader of lines in front: t is written as these lines, if it fits, and read as its value
-pub record IsLines {V T : Type 0} (read : Front V) (lines : T → List (List ℕ)) (Fits : T → Type 0) (value : T → V) : Type 0 where
+-- a reader of the first lines: t is written as these lines, if it fits, and read as its value
+pub record IsLines {V T : Type 0} (read : Prefix V) (lines : T → List (List ℕ)) (Fits : T → Type 0) (value : T → V) : Type 0 where
   pub takes : (bytes : List ℕ) (x : V × List ℕ) → read bytes ≡ Some x → (t : T) × (lines_of bytes ≡ lines t ++ lines_of x.1) × Fits t × (x.0 ≡ value t)
   pub again : (t : T) (bytes : List ℕ) (others : List (List ℕ)) → Fits t → lines_of bytes ≡ lines t ++ others → (rest : List ℕ) × (read bytes ≡ Some (value t, rest)) × (lines_of rest ≡ others)
 
@@ -50,21 +50,21 @@ module _ {V T : Type 0} {read : Whole V} {write : T → List ℕ} {Fits : T → 
       takes : (bytes : List ℕ) (x : V × List ℕ) → on_line read bytes ≡ Some x → (t : T) × (lines_of bytes ≡ write t ∷ lines_of x.1) × (Fits t × (length (write t) ≤ MAX_LINE)) × (x.0 ≡ value t)
       takes [] x e = absurd (on_line_none read x e)
       takes (c ∷ cs) x e =
-          let a = bind_some (short read (first_line (c ∷ cs))) (λ v. Some (v, behind_line (c ∷ cs))) x (sym (on_line_is read (c ∷ cs) (omega arith)) ∙ e) in
+          let a = bind_some (short read (first_line (c ∷ cs))) (λ v. Some (v, after_line (c ∷ cs))) x (sym (on_line_is read (c ∷ cs) (omega arith)) ∙ e) in
           let t = short_takes exact (first_line (c ∷ cs)) a.0 a.1 in
-          let whole : lines_of (c ∷ cs) ≡ write t.0 ∷ lines_of (behind_line (c ∷ cs)) = lines_of_first (c ∷ cs) (omega arith) ∙ ap (λ (l : List ℕ). l ∷ lines_of (behind_line (c ∷ cs))) t.1 in
-          subst (λ (y : V × List ℕ). (t : T) × (lines_of (c ∷ cs) ≡ write t ∷ lines_of y.1) × (Fits t × (length (write t) ≤ MAX_LINE)) × (y.0 ≡ value t)) (some_is (a.0, behind_line (c ∷ cs)) x a.2) (t.0, whole, t.2, t.3)
+          let whole : lines_of (c ∷ cs) ≡ write t.0 ∷ lines_of (after_line (c ∷ cs)) = lines_of_first (c ∷ cs) (omega arith) ∙ ap (λ (l : List ℕ). l ∷ lines_of (after_line (c ∷ cs))) t.1 in
+          subst (λ (y : V × List ℕ). (t : T) × (lines_of (c ∷ cs) ≡ write t ∷ lines_of y.1) × (Fits t × (length (write t) ≤ MAX_LINE)) × (y.0 ≡ value t)) (some_is (a.0, after_line (c ∷ cs)) x a.2) (t.0, whole, t.2, t.3)
 
       again : (t : T) (bytes : List ℕ) (others : List (List ℕ)) → Fits t × (length (write t) ≤ MAX_LINE) → lines_of bytes ≡ write t ∷ others → (rest : List ℕ) × (on_line read bytes ≡ Some (value t, rest)) × (lines_of rest ≡ others)
       again t [] others fits e = absurd cc
       again t (c ∷ cs) others fits e =
-          let cut : first_line (c ∷ cs) ∷ lines_of (behind_line (c ∷ cs)) ≡ write t ∷ others = sym (lines_of_first (c ∷ cs) (omega arith)) ∙ e in
+          let cut : first_line (c ∷ cs) ∷ lines_of (after_line (c ∷ cs)) ≡ write t ∷ others = sym (lines_of_first (c ∷ cs) (omega arith)) ∙ e in
           let line : first_line (c ∷ cs) ≡ write t = cc in
-          let rest : lines_of (behind_line (c ∷ cs)) ≡ others = cc in
+          let rest : lines_of (after_line (c ∷ cs)) ≡ others = cc in
           let read_again : short read (first_line (c ∷ cs)) ≡ Some (value t) = ap (short read) line ∙ short_again exact t fits.0 fits.1 in
-          (behind_line (c ∷ cs), on_line_gives read (c ∷ cs) (value t) (omega arith) read_again, rest)
+          (after_line (c ∷ cs), on_line_gives read (c ∷ cs) (value t) (omega arith) read_again, rest)
 
-module _ {V T : Type 0} {read : Front V} {lines : T → List (List ℕ)} {Fits : T → Type 0} {value : T → V} where
+module _ {V T : Type 0} {read : Prefix V} {lines : T → List (List ℕ)} {Fits : T → Type 0} {value : T → V} where
   -- what was read, made into another value
   pub map_lines : {W : Type 0} (make : V → W) → IsLines read lines Fits value → IsLines (λ bytes. read bytes >>= λ x. Some (make x.0, x.1)) lines Fits (λ t. make (value t))
   map_lines {W} make exact = record {
@@ -77,7 +77,7 @@ module _ {V T : Type 0} {read : Front V} {lines : T → List (List ℕ)} {Fits :
         (a.0, bind_is _ (λ x. Some (make x.0, x.1)) (value t, a.0) a.1, a.2);
   }
 
-module _ {V T W S : Type 0} {read : Front V} {lines : T → List (List ℕ)} {Fits : T → Type 0} {value : T → V} {next : Front W} {more : S → List (List ℕ)} {Suits : S → Type 0} {meaning : S → W} where
+module _ {V T W S : Type 0} {read : Prefix V} {lines : T → List (List ℕ)} {Fits : T → Type 0} {value : T → V} {next : Prefix W} {more : S → List (List ℕ)} {Suits : S → Type 0} {meaning : S → W} where
   pub and_lines : IsLines read lines Fits value → IsLines next more Suits meaning → IsLines (read & next) (λ (t : T × S). lines t.0 ++ more t.1) (λ (t : T × S). Fits t.0 × Suits t.1) (λ (t : T × S). (value t.0, meaning t.1))
   and_lines first second = record {
     takes = λ bytes x e.

@@ -5,31 +5,31 @@ use Rattle.std.proofs.lemmas.Bool.{and_parts, cond-false, cases_Bool, eqb-true, 
 use Rattle.script_text.specs.ScriptSteps.{lines_of}
 use Rattle.script_text.proofs.Readers.{lacks}
 
--- the first line, and what stands behind its line feed
+-- the first line, and what stands after its line feed
 abbrev pub first_line : List ℕ → List ℕ
 first_line bytes = before_first (λ b. eqb b 10) bytes
 
-abbrev pub behind_line : List ℕ → List ℕ
-behind_line bytes = after_first (λ b. eqb b 10) bytes
+abbrev pub after_line : List ℕ → List ℕ
+after_line bytes = after_first (λ b. eqb b 10) bytes
 
 first_line-cons : (c : ℕ) (cs : List ℕ) → eqb c 10 ≡ false → first_line (c ∷ cs) ≡ c ∷ first_line cs
 first_line-cons c cs other =
     let n : cond (not (eqb c 10)) (1 + position_or_len (λ b. eqb b 10) cs) 0 ≡ suc (position_or_len (λ b. eqb b 10) cs) = rw other (omega arith) in
     ap (λ (n : ℕ). take n (c ∷ cs)) n
 
-behind_line-cons : (c : ℕ) (cs : List ℕ) → eqb c 10 ≡ false → behind_line (c ∷ cs) ≡ behind_line cs
-behind_line-cons c cs other =
+after_line-cons : (c : ℕ) (cs : List ℕ) → eqb c 10 ≡ false → after_line (c ∷ cs) ≡ after_line cs
+after_line-cons c cs other =
     let n : cond (not (eqb c 10)) (1 + position_or_len (λ b. eqb b 10) cs) 0 + 1 ≡ suc (position_or_len (λ b. eqb b 10) cs + 1) = rw other (omega arith) in
     ap (λ (n : ℕ). drop n (c ∷ cs)) n
 
-lines_of_more : (c : ℕ) (cs : List ℕ) → onto_first c (lines_of cs) ≡ (c ∷ first_line cs) ∷ lines_of (behind_line cs) → lines_of (c ∷ cs) ≡ first_line (c ∷ cs) ∷ lines_of (behind_line (c ∷ cs))
+lines_of_more : (c : ℕ) (cs : List ℕ) → onto_first c (lines_of cs) ≡ (c ∷ first_line cs) ∷ lines_of (after_line cs) → lines_of (c ∷ cs) ≡ first_line (c ∷ cs) ∷ lines_of (after_line (c ∷ cs))
 lines_of_more c cs others =
     elim (cases_Bool (eqb c 10)) [
       | inl feed ↦ rw feed refl
-      | inr other ↦ cond-false (eqb c 10) _ _ other ∙ others ∙ sym (rw (first_line-cons c cs other, behind_line-cons c cs other) refl)
+      | inr other ↦ cond-false (eqb c 10) _ _ other ∙ others ∙ sym (rw (first_line-cons c cs other, after_line-cons c cs other) refl)
     ]
 
-pub lines_of_first : (bytes : List ℕ) → 0 < length bytes → lines_of bytes ≡ first_line bytes ∷ lines_of (behind_line bytes)
+pub lines_of_first : (bytes : List ℕ) → 0 < length bytes → lines_of bytes ≡ first_line bytes ∷ lines_of (after_line bytes)
 lines_of_first [] h = absurd (omega arith)
 lines_of_first (c ∷ []) h = lines_of_more c [] refl
 lines_of_first (c ∷ d ∷ ds) h = lines_of_more c (d ∷ ds) (ap (onto_first c) (lines_of_first (d ∷ ds) (omega arith)))
@@ -87,15 +87,15 @@ feed_onto c more lines (inl same) = inl (ap (onto_first c) same)
 feed_onto c more [] (inr own) = inl (ap (onto_first c) own)
 feed_onto c more (line ∷ lines) (inr own) = inr (ap (onto_first c) own)
 
-feed_behind_empty : (more lines : List (List ℕ)) → EndsWithFeed more lines → EndsWithFeed ([] ∷ more) ([] ∷ lines)
-feed_behind_empty more lines (inl same) = inl (ap (λ (r : List (List ℕ)). [] ∷ r) same)
-feed_behind_empty more lines (inr own) = inr (ap (λ (r : List (List ℕ)). [] ∷ r) own)
+feed_after_empty : (more lines : List (List ℕ)) → EndsWithFeed more lines → EndsWithFeed ([] ∷ more) ([] ∷ lines)
+feed_after_empty more lines (inl same) = inl (ap (λ (r : List (List ℕ)). [] ∷ r) same)
+feed_after_empty more lines (inr own) = inr (ap (λ (r : List (List ℕ)). [] ∷ r) own)
 
 lines_with_feed : (bytes : List ℕ) → EndsWithFeed (lines_of (bytes ++ codes "\n")) (lines_of bytes)
 lines_with_feed [] = inr refl
 lines_with_feed (c ∷ cs) =
     elim (cases_Bool (eqb c 10)) [
-      | inl feed ↦ rw feed (feed_behind_empty (lines_of (cs ++ codes "\n")) (lines_of cs) (lines_with_feed cs))
+      | inl feed ↦ rw feed (feed_after_empty (lines_of (cs ++ codes "\n")) (lines_of cs) (lines_with_feed cs))
       | inr other ↦ rw other (feed_onto c (lines_of (cs ++ codes "\n")) (lines_of cs) (lines_with_feed cs))
     ]
 
@@ -103,10 +103,10 @@ no_empty_end : (lines : List (List ℕ)) → AllByRecursion IsPlain (lines ++ []
 no_empty_end [] plain = absurd (omega (arith, plain.0.1))
 no_empty_end (line ∷ lines) plain = no_empty_end lines plain.1
 
-ended : (more lines all : List (List ℕ)) → EndsWithFeed more lines → more ≡ all → AllByRecursion IsPlain all → lines ≡ all
-ended more lines all (inl same) e plain = sym same ∙ e
-ended more lines all (inr own) e plain = absurd (no_empty_end lines (subst (AllByRecursion IsPlain) (sym e ∙ own) plain))
+no_line_added : (more lines all : List (List ℕ)) → EndsWithFeed more lines → more ≡ all → AllByRecursion IsPlain all → lines ≡ all
+no_line_added more lines all (inl same) e plain = sym same ∙ e
+no_line_added more lines all (inr own) e plain = absurd (no_empty_end lines (subst (AllByRecursion IsPlain) (sym e ∙ own) plain))
 
 pub joined_lines : (bytes : List ℕ) (lines : List (List ℕ)) → IsJoined bytes lines → AllByRecursion IsPlain lines → lines_of bytes ≡ lines
 joined_lines bytes lines (inl whole) plain = ap lines_of whole ∙ lines_of_joined lines plain
-joined_lines bytes lines (inr open') plain = ended (lines_of (bytes ++ codes "\n")) (lines_of bytes) lines (lines_with_feed bytes) (ap lines_of open' ∙ lines_of_joined lines plain) plain
+joined_lines bytes lines (inr open') plain = no_line_added (lines_of (bytes ++ codes "\n")) (lines_of bytes) lines (lines_with_feed bytes) (ap lines_of open' ∙ lines_of_joined lines plain) plain

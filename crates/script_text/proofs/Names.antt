@@ -1,20 +1,17 @@
 -- Names: the test and the definition, and the readers of names.
-use Rattle.std.proofs.Common.{◌≡◌, ◌≢◌, ℕ, Bool, true, false, eqb, leb, ◌&&◌, not, Option, Some, None, List, [], ◌∷◌, ◌++◌, length, refl, sym, ap}
+use Rattle.std.proofs.Common.{◌≡◌, ◌≢◌, ℕ, Bool, true, false, eqb, leb, ◌&&◌, not, Option, Some, None, List, [], ◌∷◌, ◌++◌, length, refl, ap}
 use Rattle.std.specs.Prelude.{is_some, MatchOption}
 use Rattle.std.specs.Bool.{Decides}
-use Rattle.std.specs.List.{list_all, list_any, AllByRecursion}
-use Rattle.std.specs.Str.{bytes_eq}
-use Rattle.std.proofs.lemmas.Bool.{and_parts, and_from, or_parts, or_from, not-true, not_from_false, leb-true, le-leb, eqb-true, false_from_ne_true}
-use Rattle.std.proofs.lemmas.Bool.Decides.{Decides-like, Decides-not}
-use Rattle.std.proofs.lemmas.Slice.Eq.{bytes_eq-Decides}
+use Rattle.std.specs.List.{list_all}
+use Rattle.std.proofs.lemmas.Bool.{and_parts, and_from, not_from_false, leb-true, le-leb, eqb-true, false_from_ne_true}
 use Rattle.idl_parse.specs.declared.keyword.Keyword.{Keyword}
 use Rattle.idl_parse.specs.LexSteps.{keyword_of}
 use Rattle.idl_parse.specs.Spellings.{keyword_text}
 use Rattle.idl_parse.proofs.CallerLemmas.{keyword_means, keyword_found, keyword_is}
 use Rattle.script_text.specs.TextLimits.{MAX_NAME}
 use Rattle.script_text.specs.Words.{is_letter, IsName}
-use Rattle.script_text.specs.Scan.{is_keyword, is_name, name, name_before}
-use Rattle.script_text.proofs.Readers.{lacks, IsWhole, IsFront, tested_whole, before_front}
+use Rattle.script_text.specs.ScanSteps.{is_keyword, is_name, name, name_before}
+use Rattle.script_text.proofs.Readers.{lacks, IsWhole, IsPrefix, tested_whole, before_prefix}
 
 -- bytes of which each passes a test lack what fails it
 pub lacks_from : (test : ℕ → Bool) (c : ℕ) (bytes : List ℕ) → test c ≡ false → list_all test bytes ≡ true → lacks c bytes ≡ true
@@ -54,6 +51,6 @@ unfolding name
 name_whole = tested_whole name_decides
 
 -- a name before what begins with no letter
-pub name_before_front : (c : ℕ) (literal : List ℕ) → is_letter c ≡ false → IsFront (name_before (c ∷ literal)) (λ (word : List ℕ). word ++ (c ∷ literal)) IsName (λ (word : List ℕ). word)
+pub name_before_prefix : (c : ℕ) (literal : List ℕ) → is_letter c ≡ false → IsPrefix (name_before (c ∷ literal)) (λ (word : List ℕ). word ++ (c ∷ literal)) IsName (λ (word : List ℕ). word)
 unfolding name_before
-name_before_front c literal ends = before_front c literal name_whole (λ word fits. lacks_from is_letter c word ends fits.letters)
+name_before_prefix c literal ends = before_prefix c literal name_whole (λ word fits. lacks_from is_letter c word ends fits.letters)

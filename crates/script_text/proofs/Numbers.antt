@@ -12,11 +12,11 @@ use Rattle.std.proofs.lemmas.Str.Ascii.{IsAscii-nil, IsAscii-cons}
 use Rattle.std.proofs.lemmas.Str.Parse.{IsNumeralModel, numerals_by_value, parse_digits, parse_signed_digits, parse_signed_minus}
 use Rattle.std.proofs.lemmas.Option.{cond_some}
 use Rattle.script_text.specs.Words.{is_digit, is_natural, is_number, number_of, IsNaturalWithin}
-use Rattle.script_text.specs.Scan.{Gives}
-use Rattle.script_text.specs.Numbers.{natural, natural_within, number}
+use Rattle.script_text.specs.ScanSteps.{Gives}
+use Rattle.script_text.specs.NumberSteps.{natural, natural_within, number}
 use Rattle.script_text.specs.Reading.{int_of}
 use Rattle.tars_model.specs.Fits.{is_int}
-use Rattle.script_text.specs.Scan.{utf8}
+use Rattle.script_text.specs.ScanSteps.{utf8}
 use Rattle.script_text.proofs.Texts.{utf8_takes}
 use Rattle.script_text.proofs.Names.{lacks_from}
 use Rattle.facts.proofs.OptionLaws.{bind_some, bind_is}

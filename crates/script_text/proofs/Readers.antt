@@ -1,5 +1,5 @@
 -- What is read is so written, and what is so written is read: for each way to join readers.
-use Rattle.std.proofs.Common.{cond, false, ◌≡◌, ℕ, Bool, true, eqb, ltb, not, List, [], ◌∷◌, ◌++◌, length, get_or, take, drop, Option, Some, None, refl, sym, ap, subst, ◌∙◌, append_assoc, arith}
+use Rattle.std.proofs.Common.{◌≡◌, ℕ, Bool, true, eqb, ltb, not, List, [], ◌∷◌, ◌++◌, length, get_or, take, drop, Some, None, refl, sym, ap, subst, ◌∙◌, append_assoc, arith}
 use Rattle.std.specs.Bool.{Decides}
 use Rattle.std.specs.List.{list_all, position_or_len, position}
 use Rattle.std.specs.Str.{bytes_eq}
@@ -9,8 +9,8 @@ use Rattle.std.proofs.lemmas.List.{take_at, drop_at, take-append-drop, length-ap
 use Rattle.std.proofs.lemmas.Slice.Eq.{bytes_eq-Decides}
 use Rattle.std.proofs.lemmas.Option.{cond_some}
 use Rattle.facts.specs.OptionSteps.{◌>>=◌}
-use Rattle.facts.proofs.OptionLaws.{bind_some, bind_is, chosen, some_is}
-use Rattle.script_text.specs.Scan.{Whole, Front, after, word_before, tested, skip, before, ◌&◌, ◌&>◌}
+use Rattle.facts.proofs.OptionLaws.{bind_some, bind_is, some_is}
+use Rattle.script_text.specs.ScanSteps.{Whole, Prefix, after, word_before, tested, skip, before, ◌&>◌}
 
 -- no byte is c
 abbrev pub lacks : ℕ → List ℕ → Bool
@@ -21,8 +21,8 @@ pub record IsWhole {V T : Type 0} (read : Whole V) (write : T → List ℕ) (Fit
   pub takes : (bytes : List ℕ) (v : V) → read bytes ≡ Some v → (t : T) × (bytes ≡ write t) × Fits t × (v ≡ value t)
   pub again : (t : T) → Fits t → read (write t) ≡ Some (value t)
 
--- the same of a reader of what stands in front
-pub record IsFront {V T : Type 0} (read : Front V) (write : T → List ℕ) (Fits : T → Type 0) (value : T → V) : Type 0 where
+-- the same of a reader of a prefix
+pub record IsPrefix {V T : Type 0} (read : Prefix V) (write : T → List ℕ) (Fits : T → Type 0) (value : T → V) : Type 0 where
   pub takes : (bytes : List ℕ) (x : V × List ℕ) → read bytes ≡ Some x → (t : T) × (bytes ≡ write t ++ x.1) × Fits t × (x.0 ≡ value t)
   pub again : (t : T) (rest : List ℕ) → Fits t → read (write t ++ rest) ≡ Some (value t, rest)
 
@@ -68,10 +68,6 @@ word_before_again c literal word rest h =
 
 -- ---- readers joined
 
--- a text and what is behind it, itself cut once more
-join_text : (a x b y c : List ℕ) → a ≡ x ++ b → b ≡ y ++ c → a ≡ (x ++ y) ++ c
-join_text a x b y c p q = p ∙ ap (λ (t : List ℕ). x ++ t) q ∙ sym (append_assoc x y c)
-
 pub tested_whole : {test : List ℕ → Bool} {Fits : List ℕ → Type 0} → ((word : List ℕ) → Decides (test word) (Fits word)) → IsWhole (tested test) (λ word. word) Fits (λ word. word)
 tested_whole {test} {Fits} decides = record {
   takes = λ bytes v e. let c = cond_some (test bytes) bytes v e in (bytes, refl, (decides bytes).0 c.0, sym c.1);
@@ -98,8 +94,8 @@ module _ {V T : Type 0} {read : Whole V} {write : T → List ℕ} {Fits : T → 
     again = λ t fits. bind_is _ (λ v. Some (make v)) (value t) (exact.again t fits);
   }
 
-  pub before_front : (c : ℕ) (literal : List ℕ) → IsWhole read write Fits value → ((t : T) → Fits t → lacks c (write t) ≡ true) → IsFront (before (c ∷ literal) read) (λ t. write t ++ (c ∷ literal)) Fits value
-  before_front c literal exact apart = record {
+  pub before_prefix : (c : ℕ) (literal : List ℕ) → IsWhole read write Fits value → ((t : T) → Fits t → lacks c (write t) ≡ true) → IsPrefix (before (c ∷ literal) read) (λ t. write t ++ (c ∷ literal)) Fits value
+  before_prefix c literal exact apart = record {
     takes = λ bytes x e.
         let a = bind_some (word_before (c ∷ literal) bytes) (λ word. read word.0 >>= λ v. Some (v, word.1)) x e in
         let b = bind_some (read a.0.0) (λ v. Some (v, a.0.1)) x a.2 in
@@ -111,46 +107,9 @@ module _ {V T : Type 0} {read : Whole V} {write : T → List ℕ} {Fits : T → 
         bind_is _ (λ word. read word.0 >>= λ v. Some (v, word.1)) (write t, rest) word ∙ bind_is _ (λ v. Some (v, rest)) (value t) (exact.again t fits);
   }
 
-module _ {V T : Type 0} {read : Front V} {write : T → List ℕ} {Fits : T → Type 0} {value : T → V} where
-  pub skip_front : (literal : List ℕ) → IsFront read write Fits value → IsFront (skip literal read) (λ t. literal ++ write t) Fits value
-  skip_front literal exact = record {
-    takes = λ bytes x e.
-        let a = bind_some (after literal bytes) read x e in
-        let b = exact.takes a.0 x a.2 in
-        (b.0, join_text bytes literal a.0 (write b.0) x.1 (after_takes literal bytes a.0 a.1) b.1, b.2, b.3);
-    again = λ t rest fits.
-        ap (skip literal read) (append_assoc literal (write t) rest) ∙ bind_is (after literal (literal ++ (write t ++ rest))) read (write t ++ rest) (after_again literal (write t ++ rest)) ∙ exact.again t rest fits;
-  }
-
-  -- what was read, made into another value
-  pub map_front : {W : Type 0} (make : V → W) → IsFront read write Fits value → IsFront (λ bytes. read bytes >>= λ x. Some (make x.0, x.1)) write Fits (λ t. make (value t))
-  map_front {W} make exact = record {
-    takes = λ bytes x e.
-        let a = bind_some (read bytes) (λ x. Some (make x.0, x.1)) x e in
-        let t = exact.takes bytes a.0 a.1 in
-        let made : (make a.0.0, a.0.1) ≡ x = some_is (make a.0.0, a.0.1) x a.2 in
-        subst (λ (y : W × List ℕ). (t : T) × (bytes ≡ write t ++ y.1) × Fits t × (y.0 ≡ make (value t))) made (t.0, t.1, t.2, ap make t.3);
-    again = λ t rest fits. bind_is _ (λ x. Some (make x.0, x.1)) (value t, rest) (exact.again t rest fits);
-  }
-
-  module _ {W S : Type 0} {next : Front W} {written : S → List ℕ} {Suits : S → Type 0} {meaning : S → W} where
-    pub and_front : IsFront read write Fits value → IsFront next written Suits meaning → IsFront (read & next) (λ (t : T × S). write t.0 ++ written t.1) (λ (t : T × S). Fits t.0 × Suits t.1) (λ (t : T × S). (value t.0, meaning t.1))
-    and_front first second = record {
-      takes = λ bytes x e.
-          let a = bind_some (read bytes) (λ v. next v.1 >>= λ w. Some ((v.0, w.0), w.1)) x e in
-          let b = bind_some (next a.0.1) (λ w. Some ((a.0.0, w.0), w.1)) x a.2 in
-          let t = first.takes bytes a.0 a.1 in
-          let s = second.takes a.0.1 b.0 b.1 in
-          let whole = join_text bytes (write t.0) a.0.1 (written s.0) b.0.1 t.1 s.1 in
-          let pair : (a.0.0, b.0.0) ≡ (value t.0, meaning s.0) = cc in
-          subst (λ (y : (V × W) × List ℕ). (t : T × S) × (bytes ≡ (write t.0 ++ written t.1) ++ y.1) × (Fits t.0 × Suits t.1) × (y.0 ≡ (value t.0, meaning t.1))) (some_is ((a.0.0, b.0.0), b.0.1) x b.2) ((t.0, s.0), whole, (t.2, s.2), pair);
-      again = λ t rest fits.
-          let front : read ((write t.0 ++ written t.1) ++ rest) ≡ Some (value t.0, written t.1 ++ rest) = ap read (append_assoc (write t.0) (written t.1) rest) ∙ first.again t.0 (written t.1 ++ rest) fits.0 in
-          bind_is _ (λ v. next v.1 >>= λ w. Some ((v.0, w.0), w.1)) (value t.0, written t.1 ++ rest) front ∙ bind_is _ (λ w. Some ((value t.0, w.0), w.1)) (meaning t.1, rest) (second.again t.1 rest fits.1);
-    }
-
+module _ {V T : Type 0} {read : Prefix V} {write : T → List ℕ} {Fits : T → Type 0} {value : T → V} where
   module _ {W S : Type 0} {next : Whole W} {written : S → List ℕ} {Suits : S → Type 0} {meaning : S → W} where
-    pub and_whole : IsFront read write Fits value → IsWhole next written Suits meaning → IsWhole (read &> next) (λ (t : T × S). write t.0 ++ written t.1) (λ (t : T × S). Fits t.0 × Suits t.1) (λ (t : T × S). (value t.0, meaning t.1))
+    pub and_whole : IsPrefix read write Fits value → IsWhole next written Suits meaning → IsWhole (read &> next) (λ (t : T × S). write t.0 ++ written t.1) (λ (t : T × S). Fits t.0 × Suits t.1) (λ (t : T × S). (value t.0, meaning t.1))
     and_whole first second = record {
       takes = λ bytes x e.
           let a = bind_some (read bytes) (λ v. next v.1 >>= λ w. Some (v.0, w)) x e in

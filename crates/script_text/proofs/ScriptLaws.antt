@@ -11,7 +11,7 @@ use Rattle.script_text.specs.TextLimits.{MAX_LINE, MAX_CALLS}
 use Rattle.script_text.specs.ScriptText as script
 use Rattle.script_text.specs.Reading.{EventValue, event_meant, Reads}
 use Rattle.facts.specs.OptionSteps.{◌>>=◌}
-use Rattle.script_text.specs.Scan.{Gives}
+use Rattle.script_text.specs.ScanSteps.{Gives}
 use Rattle.script_text.specs.ScriptSteps.{lines_of, events_on, is_call_value, HeaderValue, header_at, script_of, script_at}
 use Rattle.facts.proofs.OptionLaws.{chosen, bind_some, bind_is, some_is}
 use Rattle.script_text.proofs.Lines.{IsPlain, IsJoined, lines_join, joined_lines}
@@ -20,8 +20,8 @@ use Rattle.script_text.proofs.EventLaws.{event_plain, IsShortEvent, events_take,
 
 -- ---- a script and the parts that are read
 
-abbrev made : HeaderText → List EventText → ScriptText
-made h ts = record {
+abbrev script_from : HeaderText → List EventText → ScriptText
+script_from h ts = record {
   client = h.0;
   module_name = h.1.0.0;
   interface = h.1.0.1;
@@ -125,28 +125,28 @@ lines_from : (s : ScriptText) (bytes : List ℕ) → IsScriptText s bytes → li
 unfolding script_text
 lines_from s bytes is = joined_lines bytes (script_lines s) is.lines (lines_plain s bytes is) ∙ sym (lines_are s)
 
--- what is read of the lines behind the header
-abbrev behind : HeaderValue × List ℕ → Option (HeaderValue × List EventValue)
-behind header = events_on (lines_of header.1) >>= λ events. cond (leb (count_by is_call_value events) MAX_CALLS) (Some (header.0, events)) None
+-- what is read of the lines after the header
+abbrev after_header : HeaderValue × List ℕ → Option (HeaderValue × List EventValue)
+after_header header = events_on (lines_of header.1) >>= λ events. cond (leb (count_by is_call_value events) MAX_CALLS) (Some (header.0, events)) None
 
-pub again : (s : ScriptText) (bytes : List ℕ) → IsScriptText s bytes → script_at bytes ≡ Some (meaning s)
+pub written_is_read : (s : ScriptText) (bytes : List ℕ) → IsScriptText s bytes → script_at bytes ≡ Some (meaning s)
 unfolding script_at
-again s bytes is =
+written_is_read s bytes is =
     let header = header_read.again (header_text s) bytes (map event_line s.events) (header_fits s bytes is) (lines_from s bytes is) in
     let events : events_on (lines_of header.0) ≡ Some (map event_meant s.events) =
     ap events_on header.2 ∙ events_again s.events (events_short s.events is.events (lines_short s bytes is).1.1.1.1) in
     let calls : count_by is_call_value (map event_meant s.events) ≤ MAX_CALLS = subst (λ (n : ℕ). n ≤ MAX_CALLS) (calls_are s.events) is.calls in
     cond-true (leb (length bytes) MAX_FILE) _ _ (le-leb _ _ is.within)
-    ∙ bind_is (header_at bytes) behind (header_meant (header_text s), header.0) header.1
+    ∙ bind_is (header_at bytes) after_header (header_meant (header_text s), header.0) header.1
     ∙ bind_is _ (λ events. cond (leb (count_by is_call_value events) MAX_CALLS) (Some (header_meant (header_text s), events)) None) (map event_meant s.events) events
     ∙ cond-true (leb (count_by is_call_value (map event_meant s.events)) MAX_CALLS) (Some (meaning s)) None (le-leb _ _ calls)
 
 -- ---- a script that is read
 
-written : (h : HeaderText) (ts : List EventText) (bytes : List ℕ) → IsHeader h → AllByRecursion IsShortEvent ts → lines_of bytes ≡ header_lines h ++ map event_line ts → length bytes ≤ MAX_FILE → count_by is_call ts ≤ MAX_CALLS → IsScriptText (made h ts) bytes
+from_is_script : (h : HeaderText) (ts : List EventText) (bytes : List ℕ) → IsHeader h → AllByRecursion IsShortEvent ts → lines_of bytes ≡ header_lines h ++ map event_line ts → length bytes ≤ MAX_FILE → count_by is_call ts ≤ MAX_CALLS → IsScriptText (script_from h ts) bytes
 unfolding script_text
-written h ts bytes is are lines within calls =
-    let s = made h ts in
+from_is_script h ts bytes is are lines within calls =
+    let s = script_from h ts in
     let events = short_events ts are in
     let script : lines_of bytes ≡ script_lines s = lines ∙ lines_are s in
     record {
@@ -167,11 +167,11 @@ written h ts bytes is are lines within calls =
 both_are : (x y : HeaderValue) (a b : List EventValue) → x ≡ y → a ≡ b → ◌≡◌ {A = HeaderValue × List EventValue} (x, a) (y, b)
 both_are x y a b p q = cc
 
-pub takes : (bytes : List ℕ) (v : HeaderValue × List EventValue) → script_at bytes ≡ Some v → (s : ScriptText) × IsScriptText s bytes × (v ≡ meaning s)
+pub read_is_written : (bytes : List ℕ) (v : HeaderValue × List EventValue) → script_at bytes ≡ Some v → (s : ScriptText) × IsScriptText s bytes × (v ≡ meaning s)
 unfolding script_at
-takes bytes v e =
-    let within = chosen (leb (length bytes) MAX_FILE) (header_at bytes >>= behind) v e in
-    let a = bind_some (header_at bytes) behind v within.1 in
+read_is_written bytes v e =
+    let within = chosen (leb (length bytes) MAX_FILE) (header_at bytes >>= after_header) v e in
+    let a = bind_some (header_at bytes) after_header v within.1 in
     let b = bind_some (events_on (lines_of a.0.1)) (λ events. cond (leb (count_by is_call_value events) MAX_CALLS) (Some (a.0.0, events)) None) v a.2 in
     let c = cond_some (leb (count_by is_call_value b.0) MAX_CALLS) (a.0.0, b.0) v b.2 in
     let h = header_read.takes bytes a.0 a.1 in
@@ -179,7 +179,7 @@ takes bytes v e =
     let lines : lines_of bytes ≡ header_lines h.0 ++ map event_line ts.0 = h.1 ∙ ap (λ (r : List (List ℕ)). header_lines h.0 ++ r) ts.1 in
     let count : count_by is_call_value b.0 ≡ count_by is_call ts.0 = ap (count_by is_call_value) ts.3 ∙ sym (calls_are ts.0) in
     let calls : count_by is_call ts.0 ≤ MAX_CALLS = subst (λ (n : ℕ). n ≤ MAX_CALLS) count (leb-true _ _ c.0) in
-    (made h.0 ts.0, written h.0 ts.0 bytes h.2 ts.2 lines (leb-true _ _ within.0) calls, sym c.1 ∙ both_are a.0.0 (header_meant h.0) b.0 (map event_meant ts.0) h.3 ts.3)
+    (script_from h.0 ts.0, from_is_script h.0 ts.0 bytes h.2 ts.2 lines (leb-true _ _ within.0) calls, sym c.1 ∙ both_are a.0.0 (header_meant h.0) b.0 (map event_meant ts.0) h.3 ts.3)
 
 -- ---- the struct
 
@@ -198,10 +198,10 @@ reads r s e = record {
   events = ap (λ (v : HeaderValue × List EventValue). v.1) e;
 }
 
-pub is_found : (bytes : List ℕ) (r : Option ScriptStruct) → Gives script_of r (script_at bytes) → IfSome r (λ r. (s : ScriptText) × IsScriptText s bytes × Reads r s)
-is_found bytes (Some r) given = let t = takes bytes (script_of r) given in (t.0, t.1, reads r t.0 t.2)
-is_found bytes None given = tt
+pub found_is_written : (bytes : List ℕ) (r : Option ScriptStruct) → Gives script_of r (script_at bytes) → IfSome r (λ r. (s : ScriptText) × IsScriptText s bytes × Reads r s)
+found_is_written bytes (Some r) given = let t = read_is_written bytes (script_of r) given in (t.0, t.1, reads r t.0 t.2)
+found_is_written bytes None given = tt
 
-pub is_only : (bytes : List ℕ) (r : Option ScriptStruct) (s : ScriptText) → Gives script_of r (script_at bytes) → IsScriptText s bytes → IsSomeAnd r (λ r. Reads r s)
-is_only bytes (Some r) s given is = reads r s (some_is (script_of r) (meaning s) (sym given ∙ again s bytes is))
-is_only bytes None s given is = absurd (cc (given, again s bytes is))
+pub written_is_found : (bytes : List ℕ) (r : Option ScriptStruct) (s : ScriptText) → Gives script_of r (script_at bytes) → IsScriptText s bytes → IsSomeAnd r (λ r. Reads r s)
+written_is_found bytes (Some r) s given is = reads r s (some_is (script_of r) (meaning s) (sym given ∙ written_is_read s bytes is))
+written_is_found bytes None s given is = absurd (cc (given, written_is_read s bytes is))

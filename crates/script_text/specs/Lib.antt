@@ -1,7 +1,7 @@
 pub mod TextLimits
 pub mod Words
 pub mod ScriptText
-pub mod Scan
+pub mod ScanSteps
 pub mod Reading
-pub mod Numbers
+pub mod NumberSteps
 pub mod ScriptSteps

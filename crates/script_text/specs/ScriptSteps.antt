@@ -1,4 +1,5 @@
--- How a script is read, step by step.
+-- For the proofs: how a script is read, step by step, as the functions of src/script do. What a script is stands in
+-- specs/ScriptText.antt.
 use Rattle.std.specs.Prelude.{ℕ, Bool, true, false, ◌&&◌, ◌||◌, ◌==◌, not, nat_le, nat_lt, if◌then◌else◌, List, [], ◌∷◌, length, map, count_by, Option, Some, None, codes}
 use Rattle.std.specs.List.{list_all, before_first, after_first, onto_first}
 use Rattle.std.specs.Str.{bytes_eq}
@@ -7,21 +8,21 @@ use Rattle.script_text.specs.declared.script.object.ObjectText.{ObjectText}
 use Rattle.script_text.specs.declared.script.header.Header.{Header}
 use Rattle.script_text.specs.declared.script.header.InterfaceName.{InterfaceName}
 use Rattle.script_text.specs.declared.script.header.RuleText.{RuleText}
-use Rattle.script_text.specs.Numbers.{natural_within, number}
+use Rattle.script_text.specs.NumberSteps.{natural_within, number}
 use Rattle.script_text.specs.Reading.{EventValue, event_of, call, serve, work, deliver, close}
 use Rattle.script_text.specs.TextLimits.{MAX_FILE, MAX_LINE, MAX_CALLS, MAX_PORT, MAX_TIMEOUT}
 use Rattle.script_text.specs.ScriptText.{is_part_byte, is_host_byte}
 use Rattle.facts.specs.OptionSteps.{◌>>=◌}
-use Rattle.script_text.specs.Scan.{Whole, Front, tested, skip, before, within, ◌&◌, ◌&>◌, name, name_before, utf8}
+use Rattle.script_text.specs.ScanSteps.{Whole, Prefix, tested, skip, before, within, ◌&◌, ◌&>◌, name, name_before, utf8}
 
--- the line in front, without its line feed; the last one may have none
-unfoldable pub line_at : Front (List ℕ)
+-- the first line, without its line feed; the last one may have none
+unfoldable pub line_at : Prefix (List ℕ)
 line_at bytes =
     let line = before_first (λ b. b == 10) bytes in
     if nat_lt 0 (length bytes) && nat_le (length line) MAX_LINE then Some (line, after_first (λ b. b == 10) bytes) else None
 
 -- a line, as another reader reads it
-abbrev pub on_line : {V : Type 0} → Whole V → Front V
+abbrev pub on_line : {V : Type 0} → Whole V → Prefix V
 on_line = within line_at
 
 -- a word of such bytes
@@ -38,11 +39,11 @@ unfoldable pub file_name : Whole (List ℕ)
 file_name bytes = if is_word_of is_file_byte bytes then utf8 bytes else None
 
 -- the first line: the client's file
-unfoldable pub client_at : Front (List ℕ)
+unfoldable pub client_at : Prefix (List ℕ)
 client_at = on_line (skip (codes "client ") file_name)
 
 -- the second line: the module and the interface
-unfoldable pub interface_at : Front (List ℕ × List ℕ)
+unfoldable pub interface_at : Prefix (List ℕ × List ℕ)
 interface_at = on_line (skip (codes "interface ") (name_before (codes "::") &> name))
 
 -- a part of an id
@@ -63,11 +64,11 @@ unfoldable pub node : Whole (List ℕ × (ℕ × ℕ))
 node = before (codes " -p ") host &> (before (codes " -t ") (natural_within 1 MAX_PORT) &> natural_within 1 MAX_TIMEOUT)
 
 -- the third line: the id, and the node
-unfoldable pub object_at : Front (List ℕ × (List ℕ × (ℕ × ℕ)))
+unfoldable pub object_at : Prefix (List ℕ × (List ℕ × (ℕ × ℕ)))
 object_at = on_line (skip (codes "object ") (before (codes "@tcp -h ") id &> node))
 
 -- the fourth line: the function, and the parameters that it adds
-unfoldable pub servant_at : Front (List ℕ × (List ℕ × List ℕ))
+unfoldable pub servant_at : Prefix (List ℕ × (List ℕ × List ℕ))
 servant_at = on_line (skip (codes "servant ") (name_before (codes " add ") &> (name_before (codes " ") &> name)))
 
 -- what the header means
@@ -83,7 +84,7 @@ pub record HeaderValue : Type 0 where
   pub left : List ℕ
   pub right : List ℕ
 
--- the pieces of the four lines, taken together
+-- what the four lines say, taken together
 abbrev pub header_from : List ℕ × ((List ℕ × List ℕ) × ((List ℕ × (List ℕ × (ℕ × ℕ))) × (List ℕ × (List ℕ × List ℕ)))) → HeaderValue
 header_from h =
     let object = h.1.1.0 in
@@ -102,10 +103,10 @@ header_from h =
     }
 
 -- the four lines
-unfoldable pub header_at : Front HeaderValue
+unfoldable pub header_at : Prefix HeaderValue
 header_at bytes = do
-  pieces ← (client_at & (interface_at & (object_at & servant_at))) bytes
-  Some (header_from pieces.0, pieces.1)
+  lines ← (client_at & (interface_at & (object_at & servant_at))) bytes
+  Some (header_from lines.0, lines.1)
 
 -- what the struct of an object holds
 abbrev pub object_of : ObjectText → List ℕ × (List ℕ × (ℕ × ℕ))
@@ -139,8 +140,8 @@ header_of h = record {
 -- a call and its two numbers
 unfoldable pub call_on : Whole EventValue
 call_on line = do
-  pieces ← skip (codes "call 1 ") (name_before (codes " ") &> (before (codes " ") number &> number)) line
-  Some (call pieces.0 pieces.1.0 pieces.1.1)
+  words ← skip (codes "call 1 ") (name_before (codes " ") &> (before (codes " ") number &> number)) line
+  Some (call words.0 words.1.0 words.1.1)
 
 -- the event of a line
 unfoldable pub event_on : Whole EventValue
@@ -148,8 +149,8 @@ event_on line =
     if bytes_eq line (codes "serve 1") then Some serve else (if bytes_eq line (codes "work 1") then Some work
     else (if bytes_eq line (codes "deliver 1") then Some deliver else (if bytes_eq line (codes "close") then Some close else call_on line)))
 
--- the event of the line in front
-unfoldable pub event_at : Front EventValue
+-- the event of the first line
+unfoldable pub event_at : Prefix EventValue
 event_at = on_line event_on
 
 -- ---- the whole script

@@ -2,7 +2,7 @@
 //! gives what their lines say, by slices of the text. What the names and numbers mean is left to the caller.
 //!
 //! Read `specs/ScriptText.antt` first, which says what an accepted script is, and `specs/Reading.antt`, which
-//! says what is read of it. `specs/ScriptSteps.antt` and `specs/Scan.antt` follow the code's steps.
+//! says what is read of it. The modules named `*Steps` follow the code's steps and are for the proofs.
 #![tactic(auto)]
 
 mod scan;

@@ -1,11 +1,10 @@
-//! Readers that the interface file and the script share. Each takes its piece from the front of the
-//! bytes, and gives the piece with the bytes that stand behind it.
+//! Readers of the words of a script. Each takes a prefix of the bytes, and returns it with the bytes after it.
 
 ghost use Rattle.std.specs.Prelude.{◌≡◌, ◌<◌, ◌==◌, length, position, IfSome};
 ghost use Rattle.std.specs.List.{list_all};
 ghost use Rattle.script_text.specs.Words.{is_letter};
-ghost use Rattle.script_text.specs.Scan.{Gives, after, word_before, is_keyword, is_name};
-ghost use Rattle.script_text.specs.Scan.{name, name_before, utf8};
+ghost use Rattle.script_text.specs.ScanSteps.{Gives, after, word_before, is_keyword, is_name};
+ghost use Rattle.script_text.specs.ScanSteps.{name, name_before, utf8};
 
 use idl_parse::Keyword;
 use std::str;
@@ -16,8 +15,8 @@ pub const MAX_FILE: usize = 1_048_576;
 /// The longest name, in bytes.
 const MAX_NAME: usize = 32;
 
-/// What stands behind the literal.
-#[tactic(auto, unfolding(crate::specs::Scan::after))]
+/// What stands after the literal.
+#[tactic(auto, unfolding(crate::specs::ScanSteps::after))]
 pub fn after<'a>(text: &'a [u8], literal: &[u8]) -> Option<&'a [u8]>
     ensures { Gives (λ rest. rest.now) result (after literal.now text.now) }
 {
@@ -32,9 +31,9 @@ pub fn find(text: &[u8], byte: u8) -> Option<usize>
     text.iter().position(|b| *b == byte)
 }
 
-/// The word that ends where the literal begins, and what stands behind the literal. The literal's
+/// The word that ends where the literal begins, and what stands after the literal. The literal's
 /// first byte is one that no such word has.
-#[tactic(auto, unfolding(crate::specs::Scan::word_before))]
+#[tactic(auto, unfolding(crate::specs::ScanSteps::word_before))]
 pub fn word_before<'a>(text: &'a [u8], literal: &[u8]) -> Option<(&'a [u8], &'a [u8])>
     requires { 0 < length literal.now }
     ensures { Gives (λ x. (x.0.now, x.1.now)) result (word_before literal.now text.now) }
@@ -58,7 +57,7 @@ fn has_only_letters(word: &[u8]) -> bool
 }
 
 /// Whether the bytes are 1 to 32 letters, and no keyword.
-#[tactic(auto, unfolding(crate::specs::Scan::is_name))]
+#[tactic(auto, unfolding(crate::specs::ScanSteps::is_name))]
 fn is_name(word: &[u8]) -> bool
     ensures { result ≡ is_name word.now }
 {
@@ -66,7 +65,7 @@ fn is_name(word: &[u8]) -> bool
 }
 
 /// The bytes, if they are a name.
-#[tactic(auto, unfolding(crate::specs::Scan::name))]
+#[tactic(auto, unfolding(crate::specs::ScanSteps::name))]
 pub fn name(word: &[u8]) -> Option<&[u8]>
     ensures { Gives (λ name. name.now) result (name word.now) }
 {
@@ -74,7 +73,7 @@ pub fn name(word: &[u8]) -> Option<&[u8]>
 }
 
 /// A name before the literal, which begins with no letter.
-#[tactic(auto, unfolding(crate::specs::Scan::name_before))]
+#[tactic(auto, unfolding(crate::specs::ScanSteps::name_before))]
 pub fn name_before<'a>(text: &'a [u8], literal: &[u8]) -> Option<(&'a [u8], &'a [u8])>
     requires { 0 < length literal.now }
     ensures { Gives (λ x. (x.0.now, x.1.now)) result (name_before literal.now text.now) }
@@ -84,7 +83,7 @@ pub fn name_before<'a>(text: &'a [u8], literal: &[u8]) -> Option<(&'a [u8], &'a 
 }
 
 /// The bytes as a text, if they are one.
-#[tactic(auto, unfolding(crate::specs::Scan::utf8), using(crate::proofs::Texts::utf8_is))]
+#[tactic(auto, unfolding(crate::specs::ScanSteps::utf8), using(crate::proofs::Texts::utf8_is))]
 pub fn utf8(bytes: &[u8]) -> Option<&str>
     ensures { Gives (λ text. text.now) result (utf8 bytes.now) }
 {

@@ -2,7 +2,7 @@
 
 ghost use Rattle.std.specs.Prelude.{◌≡◌, map, IfOk, IfSome, IsSomeAnd};
 ghost use Rattle.script_text.specs.Reading.{event_of, Reads};
-ghost use Rattle.script_text.specs.Scan.{Gives};
+ghost use Rattle.script_text.specs.ScanSteps.{Gives};
 ghost use Rattle.script_text.specs.ScriptText.{IsScriptText};
 ghost use Rattle.script_text.specs.ScriptText as written;
 ghost use Rattle.script_text.specs.ScriptSteps.{header_of, script_of, script_at};

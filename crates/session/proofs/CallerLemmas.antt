@@ -1,2 +1,2 @@
 -- For the crates above: loading gives one answer.
-pub use Rattle.session.proofs.OneAnswer.{one_answer}
+pub use Rattle.session.proofs.Loads.OneAnswer.{one_answer}

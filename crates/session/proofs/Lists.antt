@@ -1,7 +1,8 @@
 -- Lists that are equal, cut and joined.
-use Rattle.std.proofs.Common.{◌≡◌, ◌≤◌, ℕ, zero, suc, List, [], ◌∷◌, ◌++◌, length, take, drop, map, refl, sym, ap, ◌∙◌, arith}
+use Rattle.std.proofs.Common.{◌≡◌, ◌≤◌, ℕ, zero, suc, Some, List, [], ◌∷◌, ◌++◌, length, take, drop, map, slice_get, refl, sym, ap, subst, ◌∙◌, arith}
 use Rattle.std.proofs.lemmas.List.{length-map, length-take-le, map-append, take-append-drop, take-append-le, take-take, take_all, drop_all}
 use Rattle.std.specs.List.{AllByRecursion}
+use Rattle.facts.proofs.OptionLaws.{some_is}
 
 pub same_head : {A : Type 0} {x y : A} {xs ys : List A} → x ∷ xs ≡ y ∷ ys → x ≡ y
 same_head e = cc
@@ -25,6 +26,11 @@ pub All-append : {A : Type 0} (P : A → Type 0) (xs ys : List A) → AllByRecur
 All-append P [] ys h own = own
 All-append P (x ∷ xs) ys h own = (h.0, All-append P xs ys h.1 own)
 
+pub All-at : {A : Type 0} (P : A → Type 0) (xs : List A) (k : ℕ) (x : A) → AllByRecursion P xs → slice_get xs k ≡ Some x → P x
+All-at P [] k x h e = absurd (cc)
+All-at P (y ∷ xs) zero x h e = subst P (some_is y x e) h.0
+All-at P (y ∷ xs) (suc k) x h e = All-at P xs k x h.1 e
+
 -- The images of the first of a list.
 
 pub all_taken : {A B : Type 0} (f : A → B) (xs : List A) → take (length xs) (map f xs) ≡ map f xs
@@ -36,9 +42,9 @@ none_left f xs = drop_all (length xs) (map f xs) (let e = length-map xs f in ome
 pub taken_len : {A B : Type 0} (f : A → B) (xs : List A) (n : ℕ) → n ≤ length xs → length (take n (map f xs)) ≡ n
 taken_len f xs n h = length-take-le n (map f xs) (let e = length-map xs f in omega arith)
 
--- more behind them changes nothing
-pub front_same : {A B : Type 0} (f : A → B) (n : ℕ) (xs ys : List A) → n ≤ length xs → take n (map f (xs ++ ys)) ≡ take n (map f xs)
-front_same f n xs ys h =
+-- more after them changes nothing
+pub prefix_same : {A B : Type 0} (f : A → B) (n : ℕ) (xs ys : List A) → n ≤ length xs → take n (map f (xs ++ ys)) ≡ take n (map f xs)
+prefix_same f n xs ys h =
     ap (λ zs. take n zs) (map-append f xs ys) ∙ take-append-le n (map f xs) (map f ys) (let e = length-map xs f in omega arith)
 
 -- one more of them
@@ -50,7 +56,7 @@ take_next f (z ∷ xs) (suc n) x more e = ap (λ zs. f z ∷ zs) (take_next f xs
 
 -- A list that is cut at two places.
 
--- nothing is behind a front
+-- nothing is after a prefix
 pub drop-take_same : {A : Type 0} (n : ℕ) (xs : List A) → drop n (take n xs) ≡ []
 drop-take_same zero xs = refl
 drop-take_same (suc n) [] = refl
@@ -62,5 +68,5 @@ middle_and_rest (suc a) zero xs h = absurd (omega arith)
 middle_and_rest (suc a) (suc m) [] h = refl
 middle_and_rest (suc a) (suc m) (x ∷ xs) h = middle_and_rest a m xs (omega arith)
 
-pub front_and_middle : {A : Type 0} (a m : ℕ) (xs : List A) → a ≤ m → take a xs ++ drop a (take m xs) ≡ take m xs
-front_and_middle a m xs h = ap (λ ys. ys ++ drop a (take m xs)) (sym (take-take a m xs h)) ∙ take-append-drop a (take m xs)
+pub prefix_and_middle : {A : Type 0} (a m : ℕ) (xs : List A) → a ≤ m → take a xs ++ drop a (take m xs) ≡ take m xs
+prefix_and_middle a m xs h = ap (λ ys. ys ++ drop a (take m xs)) (sym (take-take a m xs h)) ∙ take-append-drop a (take m xs)

@@ -1,12 +1,13 @@
 pub mod Refusals
 pub mod InterfaceFile
-pub mod InterfaceVerdicts
+pub mod VerdictSteps
 pub mod RpcPackets
 pub mod Services
 pub mod Courses
 pub mod Planned
 pub mod Legal
 pub mod Loading
-pub mod Tracks
+pub mod TrackSteps
 pub mod LoadAnswers
+pub mod LoadSteps
 pub mod SessionSteps

@@ -1,4 +1,5 @@
--- How a session is made of a script and an interface file that were read, step by step.
+-- For the proofs: how a session is made of a script and an interface file that were read, step by step, as the functions
+-- of src/loading do. What is loaded stands in specs/Loading.antt.
 use Rattle.std.specs.Prelude.{ℕ, ◌+◌, Bool, ◌&&◌, if◌then◌else◌, ℤ, List, [], ◌∷◌, map, Option, Some, None}
 use Rattle.std.specs.Str.{bytes_eq}
 use Rattle.tars_model.specs.declared.value.Value.{Num}
@@ -42,7 +43,7 @@ event_in func n work = Some (Work NODE)
 event_in func n deliver = Some (Deliver NODE None)
 event_in func n close = Some Close
 
--- the number of the call that comes behind an event
+-- the number of the call that comes after an event
 abbrev pub next_number : ℕ → EventValue → ℕ
 next_number n (call name a b) = n + 1
 next_number n _ = n

@@ -1,5 +1,5 @@
 ghost use Rattle.std.specs.Prelude.{◌≡◌};
-ghost use Rattle.session.specs.InterfaceVerdicts.{lex_refused, parse_refused};
+ghost use Rattle.session.specs.VerdictSteps.{lex_refused, parse_refused};
 
 use idl_parse::{LexFault, LexWhy, ParseFault, ParseWhy};
 

@@ -4,9 +4,9 @@ ghost use Rattle.std.specs.Prelude.{◌≡◌, ◌<◌, ◌^◌, length, IfSome}
 ghost use Rattle.std.specs.List.{All};
 ghost use Rattle.idl_parse.specs.Places.{NameIn, FuncIn, EntryIn};
 ghost use Rattle.session.specs.InterfaceFile.{one_module, one_interface, one_func, is_int_type, is_int_param, returns_int, two_ints, int_params, text_at, func_in, interface_in, IsJudged};
-ghost use Rattle.session.specs.InterfaceVerdicts.{verdict_of};
+ghost use Rattle.session.specs.VerdictSteps.{verdict_of};
 ghost use Rattle.session.specs.InterfaceFile.{names_of};
-ghost use Rattle.script_text.specs.Scan.{Gives};
+ghost use Rattle.script_text.specs.ScanSteps.{Gives};
 ghost use Rattle.tars_base.specs.Contents.{HoldsOnly};
 
 use crate::interface_fault::{FileFault, InterfaceFault};

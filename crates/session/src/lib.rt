@@ -1,4 +1,8 @@
-//! Sessions: a script with its interface is loaded, run, and reported.
+//! Sessions: `load` reads a script and the interface file that it names, `run_plan` runs it with all its ends in memory,
+//! and `report_text` prints the report. Where files come from is left to the caller, through the trait `Files`.
+//!
+//! Read `specs/Loading.antt` first, which says what loading gives, then `specs/Planned.antt` and `specs/Legal.antt`,
+//! which say what the report of a run is. The modules named `*Steps` follow the code's steps and are for the proofs.
 #![tactic(auto)]
 
 mod bodies;

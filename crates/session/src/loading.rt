@@ -1,7 +1,8 @@
 //! Loading: a script and its interface file are read and judged (docs/SCRIPTS.md, "Loading").
 
 ghost use Rattle.std.specs.Prelude.{◌≡◌, IfOk, IfSome};
-ghost use Rattle.session.specs.LoadAnswers.{answer_of, IsGiven, IsOnlyGiven, IsRefusedBy, IsFileRefusedBy};
+ghost use Rattle.session.specs.LoadAnswers.{answer_of, IsGiven, IsOnlyGiven};
+ghost use Rattle.session.specs.LoadSteps.{IsRefusedBy, IsFileRefusedBy};
 ghost use Rattle.session.specs.Loading.{IsLoaded, Loads};
 ghost use Rattle.session.specs.Refusals.{refusal_line, script_fault};
 ghost use Rattle.tars_base.specs.Causes.{HasCauseOf};
@@ -75,7 +76,7 @@ fn load_plan<F: Files>(alloc: Global, files: &mut F, name: &str) -> Result<Loade
 
 /// The session of the script under this name. A file that is longer than an accepted one is read
 /// only so far that this shows.
-#[tactic(auto, using(crate::proofs::LoadingLaws::exact_given, crate::proofs::LoadingLaws::exact_only))]
+#[tactic(auto, using(crate::proofs::Loads::Loading::exact_given, crate::proofs::Loads::Loading::exact_only))]
 pub fn load<F: Files>(
     alloc: Global,
     files: &mut F,
@@ -84,7 +85,7 @@ pub fn load<F: Files>(
 ) -> Result<Loaded, LoadFault>
     // Whether contents are told or not.
     ensures sound { IfOk result (λ l. IsLoaded l) }
-    // Where they are told, loading gives what is answered, and nothing else.
+    // Where they are told, loading gives what is returned, and nothing else.
     ensures told { IsGiven (F.contents files.old) name.now result }
     ensures only { IsOnlyGiven (F.contents files.old) name.now result }
     ensures same { F.contents files.new ≡ F.contents files.old }

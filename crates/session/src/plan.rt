@@ -1,5 +1,5 @@
 //! A script is run event by event. What the plan keeps is tied to what has happened, in plain lists,
-//! by `specs/Tracks.antt`.
+//! by `specs/TrackSteps.antt`.
 
 mod call;
 mod caller;
@@ -9,7 +9,7 @@ mod reporting;
 
 ghost use Rattle.std.specs.Prelude.{◌≡◌, ◌<◌, length, OnOk};
 ghost use Rattle.session.specs.Services.{IsService, HasInts, HaveInts};
-ghost use Rattle.session.specs.Tracks.{Tracks, Follows, Advances, Ends, course_of};
+ghost use Rattle.session.specs.TrackSteps.{Tracks, Follows, Advances, Ends, course_of};
 
 use crate::call_state::CallState;
 use crate::service::Service;

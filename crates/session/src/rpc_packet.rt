@@ -1,5 +1,5 @@
 //! The packets of requests and responses (docs/PROTOCOL.md, "Packets"): `encode` and `decode` of the
-//! members of the packet structs, behind a length.
+//! members of the packet structs, after a length.
 
 mod frame;
 mod members;

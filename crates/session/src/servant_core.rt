@@ -31,7 +31,7 @@ fn number_at(args: &[Value], index: u32) -> i64
 }
 
 /// The response that carries a sum, or the code where it is no int.
-#[tactic(auto, using(crate::proofs::ServiceLemmas::reply_rises, crate::proofs::ServiceLemmas::reply_fits, crate::proofs::ServiceLemmas::added_fits, crate::proofs::ServiceLemmas::added_passes))]
+#[tactic(auto, using(crate::proofs::Packets::Services::reply_rises, crate::proofs::Packets::Services::reply_fits, crate::proofs::Packets::Services::added_fits, crate::proofs::Packets::Services::added_passes))]
 fn response(alloc: Global, service: &Service, id: u32, sum: i64) -> Result<Response, AllocError>
     requires { IsService service.now }
     ensures { IfOk result (λ response. response ≡ response_with service.now id (added sum)) }
@@ -55,7 +55,7 @@ fn response(alloc: Global, service: &Service, id: u32, sum: i64) -> Result<Respo
 }
 
 /// The arguments that a call's body was written from.
-#[tactic(auto, using(crate::proofs::ServiceLemmas::arguments_rise, crate::proofs::ServiceLemmas::arguments_fit))]
+#[tactic(auto, using(crate::proofs::Packets::Services::arguments_rise, crate::proofs::Packets::Services::arguments_fit))]
 fn read_args(alloc: Global, service: &Service, body: &[u8]) -> Result<List<Value>, AllocError>
     requires service { IsService service.now }
     requires written { (args : Listed AValue) × AreTwoInts args × (body.now ≡ written service.now.arguments args) }

@@ -10,7 +10,7 @@ use tars_model::Bytes8;
 /// The shortest packet: a length and one byte.
 const MIN_PACKET: usize = 5;
 
-/// The packet at the front of a stream, and what stands behind it.
+/// The first packet of a stream, and what stands after it.
 #[tactic(auto, using(wire_words::proofs::PacketLaws::packet_at, wire_words::proofs::PacketLaws::packet_parts), unfolding(wire_words::specs::Packets::first_length))]
 fn first_packet(stream: &[u8]) -> Option<(&[u8], &[u8])>
     ensures { MatchOption result (has_packet stream.now ≡ false) (λ parts. (has_packet stream.now ≡ true)
@@ -32,9 +32,9 @@ pub(crate) fn whole_packets(alloc: Global, stream: &[u8]) -> Result<VecDeque<Byt
 {
     let mut packets = VecDeque::new(alloc);
     let mut rest = stream;
-    while let Some((packet, behind)) = first_packet(rest) {
+    while let Some((packet, after)) = first_packet(rest) {
         packets.push_back(Bytes8::from_slice(alloc, packet)?)?;
-        rest = behind;
+        rest = after;
     }
     Ok(packets)
 }

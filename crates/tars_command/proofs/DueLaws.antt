@@ -13,7 +13,8 @@ use Rattle.session.specs.Planned.{planned}
 use Rattle.report_lines.specs.ReportText.{report_text_of}
 use Rattle.tars_command.specs.Words.{AskForPlan, AreNoForm}
 use Rattle.tars_command.specs.Due.{DueAnswer, usage, refused, unread, done, Due, no_form, plan_unread, plan_refused, plan_done}
-use Rattle.tars_command.specs.Runs.{EndsWith, WritesDue, EndsAsDue, MayEnd}
+use Rattle.tars_command.specs.Runs.{WritesDue, EndsAsDue, MayEnd}
+use Rattle.tars_command.specs.RunSteps.{EndsWith}
 
 -- the words ask for one script
 same_script : (words : List (List ℕ)) (a b : List ℕ) → AskForPlan words a → AskForPlan words b → b ≡ a
@@ -40,9 +41,9 @@ due_only c words script answer ask only other (plan_refused s line asked given) 
 due_only c words script answer ask only other (plan_done s l asked given) =
     ap due_by (only (load.loaded l) (subst (λ (s : List ℕ). Loads c s (load.loaded l)) (same_script words script s ask asked) given))
 
-pub exactly : (c : Contents) (words : List (List ℕ)) (script : List ℕ) (answer : LoadAnswer) → AskForPlan words script → Loads c script answer → ((other : LoadAnswer) → Loads c script other → other ≡ answer)
+pub due_exactly : (c : Contents) (words : List (List ℕ)) (script : List ℕ) (answer : LoadAnswer) → AskForPlan words script → Loads c script answer → ((other : LoadAnswer) → Loads c script other → other ≡ answer)
     → HoldsOnly (Due c words) (due_by answer)
-exactly c words script answer ask given only = record { holds = due_given c words script answer ask given; only = due_only c words script answer ask only }
+due_exactly c words script answer ask given only = record { holds = due_given c words script answer ask given; only = due_only c words script answer ask only }
 
 abbrev pub IsExact : Option Contents → List (List ℕ) → DueAnswer → Type 0
 IsExact told words = IsToldOnly told (λ contents. Due contents words)
@@ -52,13 +53,13 @@ pub due_done : (told : Option Contents) (words : List (List ℕ)) (script text :
     → text ≡ report_text_of l (planned l) → IsExact told words (done text)
 due_done None words script text l ask given only is = tt
 due_done (Some c) words script text l ask given only is =
-    subst (λ (t : List ℕ). HoldsOnly (Due c words) (done t)) (sym is) (exactly c words script (load.loaded l) ask given only)
+    subst (λ (t : List ℕ). HoldsOnly (Due c words) (done t)) (sym is) (due_exactly c words script (load.loaded l) ask given only)
 
 -- the line of a refusal
 pub due_refused : (told : Option Contents) (words : List (List ℕ)) (script line : List ℕ) → AskForPlan words script → IsGiven told script (Err (faults.Refused line)) → IsOnlyGiven told script (Err (faults.Refused line))
     → IsExact told words (refused line)
 due_refused None words script line ask given only = tt
-due_refused (Some c) words script line ask given only = exactly c words script (load.refused line) ask given only
+due_refused (Some c) words script line ask given only = due_exactly c words script (load.refused line) ask given only
 
 -- ---- the ends of a run
 
@@ -75,12 +76,12 @@ usage_ends (Some c) words none = by_row
 pub done_writes : (told : Option Contents) (words : List (List ℕ)) (text : List ℕ) (old new : Option (List ℕ)) (status : Status) → IsExact told words (done text) → EndsWith old new text Done status → WritesDue told words old new status
 done_writes None words text old new status exact ends = tt
 done_writes (Some c) words text old new status exact (inl all) = subst (λ (s : Status). WritesDue (Some c) words old new s) (sym all.0) (text, exact.holds, all.1)
-done_writes (Some c) words text old new status exact (inr front) = subst (λ (s : Status). WritesDue (Some c) words old new s) (sym front.0) (text, inl exact.holds, front.1)
+done_writes (Some c) words text old new status exact (inr prefix) = subst (λ (s : Status). WritesDue (Some c) words old new s) (sym prefix.0) (text, inl exact.holds, prefix.1)
 
 pub refused_writes : (told : Option Contents) (words : List (List ℕ)) (line : List ℕ) (old new : Option (List ℕ)) (status : Status) → IsExact told words (refused line) → EndsWith old new line Refused status → WritesDue told words old new status
 refused_writes None words line old new status exact ends = tt
 refused_writes (Some c) words line old new status exact (inl all) = subst (λ (s : Status). WritesDue (Some c) words old new s) (sym all.0) (line, exact.holds, all.1)
-refused_writes (Some c) words line old new status exact (inr front) = subst (λ (s : Status). WritesDue (Some c) words old new s) (sym front.0) (line, inr exact.holds, front.1)
+refused_writes (Some c) words line old new status exact (inr prefix) = subst (λ (s : Status). WritesDue (Some c) words old new s) (sym prefix.0) (line, inr exact.holds, prefix.1)
 
 -- an end that this may have, when nothing else is due
 only_ends : (c : Contents) (words : List (List ℕ)) (answer : DueAnswer) (status end : Status) → HoldsOnly (Due c words) answer → status ≡ end → MayEnd answer end → EndsAsDue (Some c) words status
@@ -90,12 +91,12 @@ only_ends c words answer status end exact is may = λ other due.
 pub done_ends : (told : Option Contents) (words : List (List ℕ)) (text : List ℕ) (old new : Option (List ℕ)) (status : Status) → IsExact told words (done text) → EndsWith old new text Done status → EndsAsDue told words status
 done_ends None words text old new status exact ends = tt
 done_ends (Some c) words text old new status exact (inl all) = only_ends c words (done text) status Done exact all.0 tt
-done_ends (Some c) words text old new status exact (inr front) = only_ends c words (done text) status WriteFault exact front.0 tt
+done_ends (Some c) words text old new status exact (inr prefix) = only_ends c words (done text) status WriteFault exact prefix.0 tt
 
 pub refused_ends : (told : Option Contents) (words : List (List ℕ)) (line : List ℕ) (old new : Option (List ℕ)) (status : Status) → IsExact told words (refused line) → EndsWith old new line Refused status → EndsAsDue told words status
 refused_ends None words line old new status exact ends = tt
 refused_ends (Some c) words line old new status exact (inl all) = only_ends c words (refused line) status Refused exact all.0 tt
-refused_ends (Some c) words line old new status exact (inr front) = only_ends c words (refused line) status WriteFault exact front.0 tt
+refused_ends (Some c) words line old new status exact (inr prefix) = only_ends c words (refused line) status WriteFault exact prefix.0 tt
 
 -- a failed read and want of memory come only where the words are a command
 pub asked_ends : (told : Option Contents) (words : List (List ℕ)) (script : List ℕ) (status : Status) → AskForPlan words script → (status ≡ ReadFault) ⊎ (status ≡ Memory) → EndsAsDue told words status

@@ -1,35 +1,34 @@
 -- Whatever the words and the files are, one answer is due, and no other.
-use Rattle.std.proofs.Common.{◌≡◌, ◌⊎◌, inl, inr, ℕ, Bool, true, false, List, [], ◌∷◌, refl, sym, ap, subst, ◌∙◌, codes}
-use Rattle.std.specs.Str.{bytes_eq}
-use Rattle.std.proofs.lemmas.Slice.Eq.{bytes_eq-Decides}
+use Rattle.std.proofs.Common.{◌≡◌, ◌⊎◌, inl, inr, ℕ, List, map, Option, Some, None, refl, subst}
+use Rattle.std.proofs.lemmas.List.{map-id}
 use Rattle.tars_base.specs.Contents.{Contents, HoldsOnly}
 use Rattle.session.proofs.CallerLemmas.{one_answer}
-use Rattle.tars_command.specs.Words.{AskForPlan, AreNoForm, is_word}
+use Rattle.tars_command.specs.Words.{AskForPlan, AreNoForm}
+use Rattle.tars_command.specs.WordSteps.{script_in}
 use Rattle.tars_command.specs.Due.{DueAnswer, usage, Due, no_form, plan_unread, plan_refused, plan_done}
-use Rattle.tars_command.proofs.DueLaws.{due_by, exactly}
+use Rattle.tars_command.proofs.DueLaws.{due_by, due_exactly}
+use Rattle.tars_command.proofs.WordLaws.{script_asked, no_script_asked}
 
 -- words ask for a script, or are no form of a command
 abbrev Asked : List (List ℕ) → Type 0
 Asked words = ((script : List ℕ) × AskForPlan words script) ⊎ AreNoForm words
 
-two_words : (verb script : List ℕ) (plan named : Bool) → bytes_eq verb (codes "plan") ≡ plan → is_word script ≡ named → Asked (verb ∷ script ∷ [])
-two_words verb script true true e w = inl (script, record { form = ap (λ (v : List ℕ). v ∷ script ∷ []) ((bytes_eq-Decides verb (codes "plan")).0 e); word = w })
-two_words verb script false named e w =
-    inr (λ other a. let form = a.form in let same : verb ≡ codes "plan" = cc in let yes = (bytes_eq-Decides verb (codes "plan")).1 same in cc)
-two_words verb script true false e w =
-    inr (λ other a. let form = a.form in let same : other ≡ script = cc in let yes : is_word script ≡ true = subst (λ (s : List ℕ). is_word s ≡ true) same a.word in cc)
+-- a word, as its bytes
+abbrev own : List ℕ → List ℕ
+own word = word
 
-asked : (words : List (List ℕ)) → Asked words
-asked [] = inr (λ script a. let form = a.form in cc)
-asked (verb ∷ []) = inr (λ script a. let form = a.form in cc)
-asked (verb ∷ script ∷ []) = two_words verb script (bytes_eq verb (codes "plan")) (is_word script) refl refl
-asked (verb ∷ script ∷ more ∷ others) = inr (λ name a. let form = a.form in cc)
+asked_or_no_form : (words : List (List ℕ)) → Asked words
+asked_or_no_form words = subst Asked (map-id words) (by_script (script_in own words) refl)
+  where
+    by_script : (o : Option (List ℕ)) → script_in own words ≡ o → Asked (map own words)
+    by_script (Some script) e = inl (script, script_asked own words script e)
+    by_script None e = inr (no_script_asked own words e)
 
 abbrev pub OneDue : Contents → List (List ℕ) → Type 0
 OneDue files words = (answer : DueAnswer) × HoldsOnly (Due files words) answer
 
 by_form : (files : Contents) (words : List (List ℕ)) → Asked words → OneDue files words
-by_form files words (inl found) = let one = one_answer files found.0 in (due_by one.0, exactly files words found.0 one.0 found.1 one.1.holds one.1.only)
+by_form files words (inl found) = let one = one_answer files found.0 in (due_by one.0, due_exactly files words found.0 one.0 found.1 one.1.holds one.1.only)
 by_form files words (inr none) = (usage, record { holds = no_form none; only = only_usage })
   where
     only_usage : (other : DueAnswer) → Due files words other → other ≡ usage
@@ -39,4 +38,4 @@ by_form files words (inr none) = (usage, record { holds = no_form none; only = o
     only_usage other (plan_done script l ask given) = absurd (none script ask)
 
 pub one_due : (files : Contents) (words : List (List ℕ)) → OneDue files words
-one_due files words = by_form files words (asked words)
+one_due files words = by_form files words (asked_or_no_form words)

@@ -2,3 +2,4 @@ pub mod Words
 pub mod Due
 pub mod Runs
 pub mod WordSteps
+pub mod RunSteps

@@ -1,11 +1,8 @@
 -- How a run ends and what it leaves in the sink, against what is due.
-use Rattle.std.specs.Prelude.{◌≡◌, ℕ, ◌⊎◌, List, Option, Some, None, Result, Ok, Err}
-use Rattle.std.specs.declared.vec.Vec.{Vec}
+use Rattle.std.specs.Prelude.{ℕ, ◌⊎◌, List, Option, Some, None}
 use Rattle.tars_base.specs.Contents.{Contents, Appends, AppendsFront, Keeps}
 use Rattle.tars_base.specs.declared.status.Status.{Status}
 use Rattle.tars_base.specs.declared.status.Status.TheVariants.{Done, Refused, Usage, ReadFault, WriteFault, Memory}
-use Rattle.session.specs.declared.load_fault.LoadFault.{LoadFault}
-use Rattle.session.specs.declared.load_fault.LoadFault.TheVariants as faults
 use Rattle.session_model.specs.declared.loaded.Loaded.{Loaded}
 use Rattle.session.specs.Loading.{IsLoaded}
 use Rattle.session.specs.Planned.{planned}
@@ -16,7 +13,7 @@ use Rattle.tars_command.specs.Due.{DueAnswer, usage, refused, done, Due}
 abbrev pub IsDueText : Contents → List (List ℕ) → List ℕ → Type 0
 IsDueText contents words text = Due contents words (done text) ⊎ Due contents words (refused text)
 
--- where contents are told, what was written is what was due, or a front of it where a write failed
+-- where contents are told, what was written is what was due, or a prefix of it where a write failed
 abbrev pub WritesDue : Option Contents → List (List ℕ) → Option (List ℕ) → Option (List ℕ) → Status → Type 0
 WritesDue None words old new status = Unit {0}
 WritesDue (Some contents) words old new Done =
@@ -55,21 +52,3 @@ KeepsQuiet old new Done = Unit {0}
 KeepsQuiet old new Refused = Unit {0}
 KeepsQuiet old new WriteFault = Unit {0}
 KeepsQuiet old new _ = Keeps old new
-
--- ---- the steps of a run
-
--- what a text that was made, or a fault, answers; a failed read and want of memory are no answer
-abbrev pub due_of : {A : Type 0} → Result (Vec ℕ A) LoadFault → Option DueAnswer
-due_of (Ok text) = Some (done text.items)
-due_of (Err (faults.Refused line)) = Some (refused line)
-due_of (Err faults.Read) = None
-due_of (Err faults.Memory) = None
-
--- a text that is printed is the report of a session
-abbrev pub IsSessionText : List ℕ → Type 0
-IsSessionText text = (l : Loaded) × IsLoaded l × (text ≡ report_text_of l (planned l))
-
--- after a text was written a run ends with the status meant, or with a write fault after a front of it
-abbrev pub EndsWith : Option (List ℕ) → Option (List ℕ) → List ℕ → Status → Status → Type 0
-EndsWith old new text meant status =
-    ((status ≡ meant) × Appends old new text) ⊎ ((status ≡ WriteFault) × AppendsFront old new text)

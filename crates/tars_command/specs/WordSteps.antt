@@ -1,4 +1,4 @@
--- How the words of the command line are read.
+-- For the proofs: how the arguments are read, as the functions of src/words.rt do.
 use Rattle.std.specs.Prelude.{ℕ, ◌&&◌, if◌then◌else◌, List, [], ◌∷◌, Option, Some, None, codes}
 use Rattle.std.specs.Str.{bytes_eq}
 use Rattle.tars_command.specs.Words.{is_word}

@@ -9,7 +9,7 @@ ghost use Rattle.tars_base.specs.Contents.{IsToldOnly};
 ghost use Rattle.tars_command.specs.Due.{Due};
 ghost use Rattle.tars_command.specs.Words.{AskForPlan, AreNoForm};
 ghost use Rattle.tars_command.specs.Runs.{WritesDue, EndsAsDue, PrintsSession, KeepsQuiet};
-ghost use Rattle.tars_command.specs.Runs.{due_of, IsSessionText, EndsWith};
+ghost use Rattle.tars_command.specs.RunSteps.{due_of, IsSessionText, EndsWith};
 
 use crate::words::planned_script;
 use session::{LoadFault, Loaded, Mode, load, report_text, run_plan};
@@ -38,7 +38,7 @@ fn plan_text<F: Files>(alloc: Global, files: &mut F, script: &str) -> Result<Vec
     Ok(session_text(alloc, &loaded)?)
 }
 
-/// Writes a text, and answers how the run ends: as it is meant to, if all was written.
+/// Writes a text, and returns how the run ends: as it is meant to, if all was written.
 fn end_with<S: Sink>(out: &mut S, text: &[u8], meant: Status) -> Status
     requires { meant ≢ Status.WriteFault }
     ensures written { EndsWith (S.written out.old) (S.written out.new) text.now meant result }

@@ -26,7 +26,7 @@ fn script_in(words: &[String]) -> Option<&str>
 }
 
 /// The script of the words `plan SCRIPT`.
-#[tactic(auto, using(crate::proofs::WordLaws::asked))]
+#[tactic(auto, using(crate::proofs::WordLaws::planned_script_is))]
 pub fn planned_script(words: &[String]) -> Option<&str>
     ensures { let texts = map string_bytes words.now in
         MatchOption result (AreNoForm texts) (λ script. AskForPlan texts script.now) }

@@ -15,7 +15,7 @@ use std::process::ExitCode;
 use tars_base::Status;
 use tars_command::run;
 
-/// Runs the words of the command line, behind the program's name.
+/// Runs the arguments after the program's name.
 fn run_words(rt: &HostRuntime) -> Status {
     let alloc = rt.alloc();
     let args = match env::args(rt) {

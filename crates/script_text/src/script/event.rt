@@ -2,14 +2,14 @@
 
 ghost use Rattle.std.specs.Prelude.{◌<◌, length, IfSome};
 ghost use Rattle.script_text.specs.Reading.{event_of};
-ghost use Rattle.script_text.specs.Scan.{Gives};
+ghost use Rattle.script_text.specs.ScanSteps.{Gives};
 ghost use Rattle.script_text.specs.ScriptSteps.{call_on, event_on, event_at};
 
 use crate::scan::{after, name_before, word_before};
 use crate::script::lines::split_line;
 use crate::script::numbers::{int_of, is_number};
 
-/// What a line behind the header says.
+/// What a line after the header says.
 #[derive(Clone, Copy, Debug)]
 pub enum EventText<'a> {
     /// A call of the function with two numbers; each is none where it is no int.
@@ -24,7 +24,7 @@ pub enum EventText<'a> {
     Close,
 }
 
-#[tactic(auto, unfolding(crate::specs::ScriptSteps::call_on, crate::specs::Numbers::number))]
+#[tactic(auto, unfolding(crate::specs::ScriptSteps::call_on, crate::specs::NumberSteps::number))]
 fn read_call(line: &[u8]) -> Option<EventText<'_>>
     ensures { Gives event_of result (call_on line.now) }
 {
@@ -57,7 +57,7 @@ fn read_event(line: &[u8]) -> Option<EventText<'_>>
     }
 }
 
-/// The event of the line in front, and what stands behind the line.
+/// The event of the first line, and what stands after the line.
 #[tactic(auto, unfolding(crate::specs::ScriptSteps::event_at))]
 pub fn event_line(text: &[u8]) -> Option<(EventText<'_>, &[u8])>
     ensures value { Gives (λ x. (event_of x.0, x.1.now)) result (event_at text.now) }

@@ -2,7 +2,7 @@
 
 ghost use Rattle.std.specs.Prelude.{◌≡◌, map, count_by, IfOk};
 ghost use Rattle.script_text.specs.Reading.{event_of};
-ghost use Rattle.script_text.specs.Scan.{Gives};
+ghost use Rattle.script_text.specs.ScanSteps.{Gives};
 ghost use Rattle.script_text.specs.ScriptSteps.{lines_of, events_on, is_call_value};
 
 use crate::script::event::{EventText, event_line};
@@ -16,11 +16,11 @@ pub fn read_events(alloc: Global, text: &[u8]) -> Result<Option<Vec<EventText<'_
     let mut events = Vec::new(alloc);
     let mut rest = text;
     while !rest.is_empty() {
-        let Some((event, behind)) = event_line(rest) else {
+        let Some((event, after_line)) = event_line(rest) else {
             return Ok(None);
         };
         events.push(event)?;
-        rest = behind;
+        rest = after_line;
     }
     Ok(Some(events))
 }

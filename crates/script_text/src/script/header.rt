@@ -2,7 +2,7 @@
 
 ghost use Rattle.std.specs.Prelude.{◌≡◌, ◌≢◌};
 ghost use Rattle.std.specs.List.{list_all};
-ghost use Rattle.script_text.specs.Scan.{Gives};
+ghost use Rattle.script_text.specs.ScanSteps.{Gives};
 ghost use Rattle.script_text.specs.ScriptSteps.{is_file_byte, file_name, client_at};
 ghost use Rattle.script_text.specs.ScriptSteps.{interface_of, interface_at, rule_of, servant_at};
 ghost use Rattle.script_text.specs.ScriptSteps.{header_of, header_at};
@@ -82,7 +82,7 @@ fn servant_line(text: &[u8]) -> Option<(RuleText<'_>, &[u8])>
     Some((RuleText { func, left, right }, rest))
 }
 
-/// The four lines in front, and what stands behind them.
+/// The first four lines, and what stands after them.
 #[tactic(auto, unfolding(crate::specs::ScriptSteps::header_at))]
 pub fn read_header(text: &[u8]) -> Option<(Header<'_>, &[u8])>
     ensures { Gives (λ x. (header_of x.0, x.1.now)) result (header_at text.now) }

@@ -1,7 +1,7 @@
 //! The lines of a script.
 
 ghost use Rattle.std.specs.Prelude.{◌<◌, length, IfSome};
-ghost use Rattle.script_text.specs.Scan.{Gives};
+ghost use Rattle.script_text.specs.ScanSteps.{Gives};
 ghost use Rattle.script_text.specs.ScriptSteps.{line_at};
 
 use crate::scan::find;
@@ -9,7 +9,7 @@ use crate::scan::find;
 /// The longest line, in bytes, without its line feed.
 const MAX_LINE: usize = 4096;
 
-/// The line in front, without its line feed, and what stands behind it. The last line may have no
+/// The first line, without its line feed, and what stands after it. The last line may have no
 /// line feed. There is none at the end, and none that is too long.
 #[tactic(auto, unfolding(crate::specs::ScriptSteps::line_at))]
 pub fn split_line(text: &[u8]) -> Option<(&[u8], &[u8])>

@@ -2,9 +2,9 @@
 
 ghost use Rattle.std.specs.Prelude.{◌≡◌, ◌≤◌, true, IfSome};
 ghost use Rattle.std.specs.List.{list_all};
-ghost use Rattle.script_text.specs.Numbers.{natural, natural_within};
+ghost use Rattle.script_text.specs.NumberSteps.{natural, natural_within};
 ghost use Rattle.script_text.specs.Reading.{int_of};
-ghost use Rattle.script_text.specs.Scan.{Gives};
+ghost use Rattle.script_text.specs.ScanSteps.{Gives};
 ghost use Rattle.script_text.specs.Words.{is_digit, is_natural, is_number};
 
 use crate::scan::utf8;
@@ -25,7 +25,7 @@ fn is_natural(text: &[u8]) -> bool
     }
 }
 
-/// Whether the bytes are digits without a leading zero, or such digits behind a minus but for 0.
+/// Whether the bytes are digits without a leading zero, or such digits after a minus but for 0.
 pub fn is_number(text: &[u8]) -> bool
     ensures { result ≡ is_number text.now }
 {
@@ -35,7 +35,7 @@ pub fn is_number(text: &[u8]) -> bool
     }
 }
 
-#[tactic(auto, unfolding(crate::specs::Numbers::natural))]
+#[tactic(auto, unfolding(crate::specs::NumberSteps::natural))]
 fn natural(text: &[u8]) -> Option<u32>
     ensures { Gives (λ n. n) result (natural text.now) }
 {
@@ -46,7 +46,7 @@ fn natural(text: &[u8]) -> Option<u32>
 }
 
 /// The number that the digits mean, if it is in the range.
-#[tactic(auto, unfolding(crate::specs::Numbers::natural_within))]
+#[tactic(auto, unfolding(crate::specs::NumberSteps::natural_within))]
 pub fn natural_within(text: &[u8], low: u32, high: u32) -> Option<u32>
     ensures value { Gives (λ n. n) result (natural_within low high text.now) }
     ensures within { IfSome result (λ n. n ≤ high) }

@@ -2,7 +2,7 @@
 
 ghost use Rattle.std.specs.Prelude.{◌≡◌, ◌<◌, length};
 ghost use Rattle.std.specs.List.{list_all};
-ghost use Rattle.script_text.specs.Scan.{Gives};
+ghost use Rattle.script_text.specs.ScanSteps.{Gives};
 ghost use Rattle.script_text.specs.ScriptText.{is_part_byte, is_host_byte};
 ghost use Rattle.script_text.specs.ScriptSteps.{part, host, id, node, object_of, object_at};
 
@@ -91,19 +91,19 @@ fn read_node(text: &[u8]) -> Option<Node<'_>>
     })
 }
 
-/// The object of the line in front, and what stands behind the line.
+/// The object of the first line, and what stands after the line.
 #[tactic(auto, unfolding(crate::specs::ScriptSteps::object_at))]
 pub fn object_line(text: &[u8]) -> Option<(ObjectText<'_>, &[u8])>
     ensures { Gives (λ x. (object_of x.0, x.1.now)) result (object_at text.now) }
 {
     let (line, rest) = split_line(text)?;
-    let (word, behind) = word_before(after(line, b"object ")?, b"@tcp -h ")?;
+    let (word, node) = word_before(after(line, b"object ")?, b"@tcp -h ")?;
     let id = id(word)?;
     let Node {
         host,
         port,
         timeout,
-    } = read_node(behind)?;
+    } = read_node(node)?;
     let object = ObjectText {
         id,
         host,

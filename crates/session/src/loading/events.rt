@@ -2,7 +2,7 @@
 
 ghost use Rattle.std.specs.Prelude.{◌≡◌, ◌<◌, ◌≤◌, ◌-◌, ◌^◌, map, count_by, IfOk};
 ghost use Rattle.script_text.specs.Reading.{event_of};
-ghost use Rattle.script_text.specs.Scan.{Gives};
+ghost use Rattle.script_text.specs.ScanSteps.{Gives};
 ghost use Rattle.script_text.specs.ScriptSteps.{is_call_value};
 ghost use Rattle.script_text.specs.TextLimits.{MAX_CALLS};
 ghost use Rattle.session.specs.SessionSteps.{call_with, event_in, next_number, events_in};
@@ -63,7 +63,7 @@ fn event_of(
     })
 }
 
-/// The number of the call that comes behind this event.
+/// The number of the call that comes after this event.
 fn next_number(number: u32, text: &EventText) -> u32
     requires { number < 2 ^ 32 - 1 }
     ensures { result ≡ next_number number (event_of text.now) }

@@ -5,7 +5,7 @@ ghost use Rattle.session.specs.InterfaceFile.{InterfaceText as Named};
 ghost use Rattle.session.specs.Loading.{Agree, loaded_of};
 ghost use Rattle.session.specs.InterfaceFile.{names_of};
 ghost use Rattle.script_text.specs.Reading.{event_of, Reads};
-ghost use Rattle.script_text.specs.Scan.{Gives};
+ghost use Rattle.script_text.specs.ScanSteps.{Gives};
 ghost use Rattle.script_text.specs.ScriptSteps.{is_call_value};
 ghost use Rattle.script_text.specs.ScriptText.{ScriptText as Written};
 ghost use Rattle.session.specs.SessionSteps.{index_in, rule_in, object_in, is_about, session_in};

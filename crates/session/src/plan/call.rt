@@ -5,7 +5,7 @@ ghost use Rattle.session.specs.Courses.{not_sent as is_not_sent, open_under as i
 ghost use Rattle.session.specs.RpcPackets.{request_frame};
 ghost use Rattle.session.specs.Services.{IsService, AreTwoInts, request_of};
 ghost use Rattle.session_model.specs.Sessions.{WIDTH};
-ghost use Rattle.session.specs.Tracks.{Tracks, Follows, course_of};
+ghost use Rattle.session.specs.TrackSteps.{Tracks, Follows, course_of};
 ghost use Rattle.session_model.specs.declared.loaded.Event.TheVariants.{Call};
 
 use super::Plan;
@@ -57,7 +57,7 @@ fn open_under(spec: &CallSpec, id: u32) -> CallState
 }
 
 /// The frame of a call's request.
-#[tactic(auto, using(crate::proofs::ServiceLemmas::arguments_rise, crate::proofs::ServiceLemmas::arguments_fit, crate::proofs::ServiceLemmas::request_sendable))]
+#[tactic(auto, using(crate::proofs::Packets::Services::arguments_rise, crate::proofs::Packets::Services::arguments_fit, crate::proofs::Packets::Services::request_sendable))]
 fn request_frame_of(
     alloc: Global,
     service: &Service,

@@ -3,7 +3,7 @@
 ghost use Rattle.std.specs.Prelude.{None, OnOk};
 ghost use Rattle.session_model.specs.Sessions.{NODE};
 ghost use Rattle.session_model.specs.declared.loaded.Event.TheVariants.{Deliver, Close};
-ghost use Rattle.session.specs.Tracks.{Tracks, Follows, course_of};
+ghost use Rattle.session.specs.TrackSteps.{Tracks, Follows, course_of};
 
 use super::Plan;
 use super::replies::take_all_in;

@@ -4,7 +4,7 @@ ghost use Rattle.std.specs.Prelude.{◌≡◌, false, List, map, MatchOption, On
 ghost use Rattle.std.specs.List.{AllByRecursion, list_any};
 ghost use Rattle.session.specs.Courses.{Opened, answer_frame, is_open_under, outcome as outcome_of};
 ghost use Rattle.session.specs.Services.{IsService, reply_to, response_of};
-ghost use Rattle.session.specs.Tracks.{IsOpened, IsOpenAt, Settles, TakesIn, TakeIn};
+ghost use Rattle.session.specs.TrackSteps.{IsOpened, IsOpenAt, Settles, TakesIn, TakeIn};
 
 use crate::bodies::read_body;
 use crate::call_state::CallState;

@@ -4,7 +4,7 @@ ghost use Rattle.std.specs.Prelude.{◌≡◌, ◌++◌, [], None, map, IfOk};
 ghost use Rattle.std.specs.List.{filter_map};
 ghost use Rattle.session.specs.Planned.{row_of as row_is, picked_step as picked_is, reported_step as reported_is, report_of};
 ghost use Rattle.session_model.specs.Sessions.{NODE};
-ghost use Rattle.session.specs.Tracks.{Tracks, course_of};
+ghost use Rattle.session.specs.TrackSteps.{Tracks, course_of};
 
 use super::Plan;
 use crate::call_state::CallState;

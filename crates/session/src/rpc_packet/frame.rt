@@ -12,7 +12,7 @@ use tars_model::{Bytes8, List as Listed, Member, Value};
 /// How many bytes a packet's length takes, which counts them too.
 const LENGTH_BYTES: usize = 4;
 
-/// The values under the members, behind the length.
+/// The values under the members, after the length.
 #[tactic(auto, unfolding(wire_words::specs::Packets::framed))]
 pub fn frame(alloc: Global, members: &[Member], values: &[Value]) -> Result<Bytes8, AllocError>
     requires rising { HaveRisingTags members.now }

@@ -1,5 +1,5 @@
 ghost use Rattle.std.specs.Prelude.{◌≡◌, ◌∷◌, [], ◌++◌, IfOk, OnOk};
-ghost use Rattle.session.specs.RpcPackets.{number_member, text_member, bytes_member, texts_member, request_members as request_members_are, response_members as response_members_are};
+ghost use Rattle.session.specs.RpcPackets.{packet_member, number_member, text_member, bytes_member, texts_member, request_members as request_members_are, response_members as response_members_are};
 
 use std::alloc::{AllocError, Global};
 use tars_model::{Boxed, Bytes8, List, Member, Name, Ty, Value};
@@ -21,8 +21,15 @@ impl Members {
         }
     }
 
-    fn number(&mut self, tag: u8, require: bool, ty: Ty, name: &[u8]) -> Result<(), AllocError>
-        ensures { OnOk result (self.new.members ≡ self.old.members ++ number_member tag require ty name.now ∷ []) }
+    fn add(
+        &mut self,
+        tag: u8,
+        require: bool,
+        ty: Ty,
+        name: &[u8],
+        default: Value,
+    ) -> Result<(), AllocError>
+        ensures { OnOk result (self.new.members ≡ self.old.members ++ packet_member tag require ty name.now default ∷ []) }
     {
         let name = Name::from_slice(self.alloc, name)?;
         self.members.push(Member {
@@ -30,55 +37,40 @@ impl Members {
             require,
             ty,
             name,
-            default: Value::Num(0),
+            default,
         })
+    }
+
+    fn number(&mut self, tag: u8, require: bool, ty: Ty, name: &[u8]) -> Result<(), AllocError>
+        ensures { OnOk result (self.new.members ≡ self.old.members ++ number_member tag require ty name.now ∷ []) }
+    {
+        self.add(tag, require, ty, name, Value::Num(0))
     }
 
     fn text(&mut self, tag: u8, require: bool, name: &[u8]) -> Result<(), AllocError>
         ensures { OnOk result (self.new.members ≡ self.old.members ++ text_member tag require name.now ∷ []) }
     {
-        let name = Name::from_slice(self.alloc, name)?;
         let default = Value::Text(Bytes8::from_vec(Vec::new(self.alloc)));
-        self.members.push(Member {
-            tag,
-            require,
-            ty: Ty::Text,
-            name,
-            default,
-        })
+        self.add(tag, require, Ty::Text, name, default)
     }
 
     /// A `vector<byte>`.
     fn bytes(&mut self, tag: u8, require: bool, name: &[u8]) -> Result<(), AllocError>
         ensures { OnOk result (self.new.members ≡ self.old.members ++ bytes_member tag require name.now ∷ []) }
     {
-        let name = Name::from_slice(self.alloc, name)?;
         let ty = Ty::Vector(Boxed::new(self.alloc, Ty::Byte)?);
         let default = Value::Blob(Bytes8::from_vec(Vec::new(self.alloc)));
-        self.members.push(Member {
-            tag,
-            require,
-            ty,
-            name,
-            default,
-        })
+        self.add(tag, require, ty, name, default)
     }
 
     /// A `map<string, string>`.
     fn texts(&mut self, tag: u8, require: bool, name: &[u8]) -> Result<(), AllocError>
         ensures { OnOk result (self.new.members ≡ self.old.members ++ texts_member tag require name.now ∷ []) }
     {
-        let name = Name::from_slice(self.alloc, name)?;
         let key = Boxed::new(self.alloc, Ty::Text)?;
         let ty = Ty::Map(key, Boxed::new(self.alloc, Ty::Text)?);
         let default = Value::Map(List::new(self.alloc));
-        self.members.push(Member {
-            tag,
-            require,
-            ty,
-            name,
-            default,
-        })
+        self.add(tag, require, ty, name, default)
     }
 }
 

@@ -26,7 +26,7 @@ pub struct RequestRead {
     pub body: Bytes8,
 }
 
-#[tactic(auto, using(crate::proofs::PacketFits::request_rises, crate::proofs::PacketFits::request_fits, crate::proofs::PacketLengths::request_short), unfolding(crate::specs::RpcPackets::request_frame))]
+#[tactic(auto, using(crate::proofs::Packets::Fits::request_rises, crate::proofs::Packets::Fits::request_fits, crate::proofs::Packets::Lengths::request_short), unfolding(crate::specs::RpcPackets::request_frame))]
 pub fn write_request(
     alloc: Global,
     members: &[Member],
@@ -66,7 +66,7 @@ fn values_of(alloc: Global, request: Request) -> [Value; 10]
 }
 
 /// Reads the packet of a request that was written.
-#[tactic(auto, using(crate::proofs::PacketFits::request_rises, crate::proofs::PacketFits::request_fits), unfolding(crate::specs::RpcPackets::request_frame))]
+#[tactic(auto, using(crate::proofs::Packets::Fits::request_rises, crate::proofs::Packets::Fits::request_fits), unfolding(crate::specs::RpcPackets::request_frame))]
 pub fn read_request(
     alloc: Global,
     members: &[Member],

@@ -16,7 +16,7 @@ pub struct Response {
     pub body: Bytes8,
 }
 
-#[tactic(auto, using(crate::proofs::PacketFits::response_rises, crate::proofs::PacketFits::response_fits, crate::proofs::PacketLengths::response_short), unfolding(crate::specs::RpcPackets::response_frame))]
+#[tactic(auto, using(crate::proofs::Packets::Fits::response_rises, crate::proofs::Packets::Fits::response_fits, crate::proofs::Packets::Lengths::response_short), unfolding(crate::specs::RpcPackets::response_frame))]
 pub fn write_response(
     alloc: Global,
     members: &[Member],
@@ -48,7 +48,7 @@ fn values_of(alloc: Global, response: Response) -> [Value; 8]
 }
 
 /// Reads the packet of a response that was written.
-#[tactic(auto, using(crate::proofs::PacketFits::response_rises, crate::proofs::PacketFits::response_fits), unfolding(crate::specs::RpcPackets::response_frame))]
+#[tactic(auto, using(crate::proofs::Packets::Fits::response_rises, crate::proofs::Packets::Fits::response_fits), unfolding(crate::specs::RpcPackets::response_frame))]
 pub fn read_response(
     alloc: Global,
     members: &[Member],

@@ -1,4 +1,4 @@
-use Rattle.session.proofs.InterfaceNames.{ints_in}
+use Rattle.session.proofs.Loads.Names.{ints_in}
 use Rattle.session.proofs.interface_file.func_text.Goals as goal
 
 pub name_text-first-requires : goal.name_text-first-requires

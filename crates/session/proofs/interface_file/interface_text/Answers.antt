@@ -1,4 +1,4 @@
-use Rattle.session.proofs.InterfaceNames.{module_in, interface_in, func_in}
+use Rattle.session.proofs.Loads.Names.{module_in, interface_in, func_in}
 use Rattle.session.proofs.interface_file.interface_text.Goals as goal
 
 pub func_text-requires : goal.func_text-requires

@@ -1,8 +1,8 @@
 use Rattle.std.proofs.Common.{arith}
 use Rattle.tars_base.specs.Contents.{HoldsOnly}
 use Rattle.session.specs.InterfaceFile.{IsJudged}
-use Rattle.session.specs.InterfaceVerdicts.{lex_refused, parse_refused}
-use Rattle.session.proofs.InterfaceLaws.{Lexed, Parsed, judged_long, judged_lex, judged_parse, judged_shape, judged_names, by_error}
+use Rattle.session.specs.VerdictSteps.{lex_refused, parse_refused}
+use Rattle.session.proofs.Loads.Interfaces.{Lexed, Parsed, judged_long, judged_lex, judged_parse, judged_shape, judged_names, by_error}
 use Rattle.session.proofs.interface_file.read_interface.Goals as goal
 
 pub returns-then-text-gt-MAX_FILE : goal.returns-then-text-gt-MAX_FILE

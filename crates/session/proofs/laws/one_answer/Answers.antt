@@ -1,5 +1,5 @@
 use Rattle.std.proofs.Common.{sym, ◌∙◌}
-use Rattle.session.proofs.OneAnswer.{one_answer}
+use Rattle.session.proofs.Loads.OneAnswer.{one_answer}
 use Rattle.session.proofs.laws.one_answer.Goals as goal
 
 pub returns-clause-some : goal.returns-clause-some

@@ -6,9 +6,9 @@ use Rattle.session.specs.Legal.{IsLegal}
 use Rattle.session.specs.Loading.{IsLoaded}
 use Rattle.session.specs.Planned.{planned}
 use Rattle.session.specs.Services.{HaveInts}
-use Rattle.session.proofs.EventLemmas.{ended_report}
-use Rattle.session.proofs.LegalLaw.{planned_is_legal}
-use Rattle.session.proofs.LoadedLemmas.{loaded_events}
+use Rattle.session.proofs.Tracks.Events.{ended_report}
+use Rattle.session.proofs.Legal.Law.{planned_is_legal}
+use Rattle.session.proofs.Loads.Loaded.{loaded_events}
 use Rattle.session.proofs.run.run_plan.Goals as goal
 
 pub run-requires-clause-ints : goal.run-requires-clause-ints

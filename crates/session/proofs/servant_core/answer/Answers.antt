@@ -8,24 +8,24 @@ use Rattle.session.specs.declared.service.Service.{Service}
 use Rattle.session.specs.RpcPackets.{response_frame}
 use Rattle.session.specs.Services.{request_of, response_of, response_with, AreTwoInts}
 use Rattle.session_model.specs.Replies.{added, argument}
-use Rattle.session.proofs.ServiceLemmas.{asked, response_answerable}
+use Rattle.session.proofs.Packets.Services.{request_of_sendable, response_answerable}
 use Rattle.session.proofs.servant_core.answer.Goals as goal
 
 pub read_request-requires-clause-written : goal.read_request-requires-clause-written
 read_request-requires-clause-written c =
     let w = c.requires.written in
-    (request_of c.args.service.now w.0 w.1, asked c.args.service.now w.0 w.1 c.args.packet.now c.requires.service w.2, w.2.bytes)
+    (request_of c.args.service.now w.0 w.1, request_of_sendable c.args.service.now w.0 w.1 c.args.packet.now c.requires.service w.2, w.2.bytes)
 
 pub read_args-requires-clause-written : goal.read_args-requires-clause-written
 read_args-requires-clause-written c =
     let w = c.requires.written in
-    let read = c.in_ok-request.ensures (request_of c.args.service.now w.0 w.1) (asked c.args.service.now w.0 w.1 c.args.packet.now c.requires.service w.2) w.2.bytes in
+    let read = c.in_ok-request.ensures (request_of c.args.service.now w.0 w.1) (request_of_sendable c.args.service.now w.0 w.1 c.args.packet.now c.requires.service w.2) w.2.bytes in
     (w.0, w.2.ints, c.as_slice-2.ensures ∙ read.1)
 
 pub sum_of-sum-requires-clause-ints : goal.sum_of-sum-requires-clause-ints
 sum_of-sum-requires-clause-ints c =
     let w = c.requires.written in
-    let read = c.in_ok-request.ensures (request_of c.args.service.now w.0 w.1) (asked c.args.service.now w.0 w.1 c.args.packet.now c.requires.service w.2) w.2.bytes in
+    let read = c.in_ok-request.ensures (request_of c.args.service.now w.0 w.1) (request_of_sendable c.args.service.now w.0 w.1 c.args.packet.now c.requires.service w.2) w.2.bytes in
     let args = c.in_ok-args.ensures w.0 w.2.ints (c.as_slice-2.ensures ∙ read.1) in
     subst AreTwoInts (sym (c.as_slice-3.ensures ∙ args)) w.2.ints
 
@@ -36,7 +36,7 @@ same_sum n h = to_z-of_z w64 n (record { sfits = h })
 pub write_response-requires-clause-answerable : goal.write_response-requires-clause-answerable
 write_response-requires-clause-answerable c =
     let w = c.requires.written in
-    let read = c.in_ok-request.ensures (request_of c.args.service.now w.0 w.1) (asked c.args.service.now w.0 w.1 c.args.packet.now c.requires.service w.2) w.2.bytes in
+    let read = c.in_ok-request.ensures (request_of c.args.service.now w.0 w.1) (request_of_sendable c.args.service.now w.0 w.1 c.args.packet.now c.requires.service w.2) w.2.bytes in
     rw (c.in_ok-response.ensures, same_sum c.sum_of-sum.result c.sum_of-sum.type_inv) (response_answerable c.args.service.now c.in_ok-request.request.id c.sum_of-sum.result c.requires.service (rw read.0 w.2.small))
 
 -- the response that was written is the call's
@@ -49,7 +49,7 @@ framed_as r a b e h = subst (λ (x : Response). IfOk r (λ frame. frame ≡ resp
 
 pub returns : goal.returns
 returns c = λ asked_args id a.
-    let read = c.in_ok-request.ensures (request_of c.args.service.now asked_args id) (asked c.args.service.now asked_args id c.args.packet.now c.requires.service a) a.bytes in
+    let read = c.in_ok-request.ensures (request_of c.args.service.now asked_args id) (request_of_sendable c.args.service.now asked_args id c.args.packet.now c.requires.service a) a.bytes in
     let args = c.in_ok-args.ensures asked_args a.ints (c.as_slice-2.ensures ∙ read.1) in
     framed_as _ _ (response_of c.args.service.now asked_args id)
     (c.in_ok-response.ensures

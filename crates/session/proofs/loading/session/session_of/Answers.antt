@@ -1,5 +1,5 @@
 use Rattle.session.specs.InterfaceFile.{names_of}
-use Rattle.session.proofs.SessionLaws.{session_says}
+use Rattle.session.proofs.Loads.Sessions.{session_says}
 use Rattle.session.proofs.loading.session.session_of.Goals as goal
 
 pub returns : goal.returns

@@ -1,6 +1,6 @@
 use Rattle.std.proofs.Common.{refl, arith}
-use Rattle.session.specs.Tracks.{course_of}
-use Rattle.session.proofs.CallLemmas.{full_tracks, closed_tracks}
+use Rattle.session.specs.TrackSteps.{course_of}
+use Rattle.session.proofs.Tracks.Calls.{full_tracks, closed_tracks}
 use Rattle.session.proofs.plan.Plan.call.Goals as goal
 
 pub returns-then-len-ge-WIDTH : goal.returns-then-len-ge-WIDTH

@@ -1,14 +1,14 @@
 use Rattle.std.proofs.Common.{◌≡◌, true, map, refl, sym, ap, subst, ◌∙◌}
 use Rattle.std.proofs.lemmas.List.{length-map}
 use Rattle.session.specs.Courses.{Course, closed_call}
-use Rattle.session.specs.Tracks.{Tracks, course_of}
-use Rattle.session.proofs.Deliveries.{opened-closed, all_closed_twice}
-use Rattle.session.proofs.Moved.{moved}
+use Rattle.session.specs.TrackSteps.{Tracks, course_of}
+use Rattle.session.proofs.Tracks.Deliveries.{opened-closed, all_closed_twice}
+use Rattle.session.proofs.Tracks.OneEnd.{caller_tracks}
 use Rattle.session.proofs.plan.Plan.close.Goals as goal
 
 -- where the session was closed before, nothing happens
-again : (c : Course) → c.closed ≡ true → map closed_call c.calls ≡ c.calls → record c { calls = map closed_call c.calls; closed = true } ≡ c
-again c e h = ap (λ calls. record c { calls = calls; closed = true }) h ∙ ap (λ closed. record c { closed = closed }) (sym e)
+close_again : (c : Course) → c.closed ≡ true → map closed_call c.calls ≡ c.calls → record c { calls = map closed_call c.calls; closed = true } ≡ c
+close_again c e h = ap (λ calls. record c { calls = calls; closed = true }) h ∙ ap (λ closed. record c { closed = closed }) (sym e)
 
 pub returns-then-self : goal.returns-then-self
 returns-then-self c =
@@ -17,7 +17,7 @@ returns-then-self c =
     let closed = sym t.closed_is ∙ c.if-self.true in
     record {
       same = record { service_is = refl; events_are = refl; done_is = refl };
-      tracks = subst (λ (course : Course). Tracks p course) (sym (again (course_of p) closed (t.all_ended closed))) t;
+      tracks = subst (λ (course : Course). Tracks p course) (sym (close_again (course_of p) closed (t.all_ended closed))) t;
     }
 
 pub returns : goal.returns
@@ -28,7 +28,7 @@ returns c =
     record {
       same = record { service_is = refl; events_are = refl; done_is = refl };
       tracks =
-          moved p (record p { calls = c.close_all.new.calls; closed = true }) course (record course { calls = map closed_call course.calls; closed = true }) t.answers t
+          caller_tracks p (record p { calls = c.close_all.new.calls; closed = true }) course (record course { calls = map closed_call course.calls; closed = true }) t.answers t
           (record {
             opened_is = opened-closed course.calls course.args;
             served_is = refl;

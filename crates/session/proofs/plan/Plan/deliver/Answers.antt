@@ -8,11 +8,11 @@ use Rattle.session.specs.declared.call_state.CallState.{CallState}
 use Rattle.session.specs.declared.plan.Plan.{Plan}
 use Rattle.session.specs.Courses.{Course, Opened, opened, answered_calls, answer_frame, answers_stream, joined}
 use Rattle.session.specs.Planned.{got_rows}
-use Rattle.session.specs.Tracks.{Tracks, TakeIn, course_of, IsOpened, CallerState, come, answer_frames}
-use Rattle.session.proofs.Deliveries.{Comes, comes}
-use Rattle.session.proofs.FramesArePackets.{answers_are_packets}
-use Rattle.session.proofs.Moved.{IsMoved, moved}
-use Rattle.session.proofs.Lists.{All-take, All-drop, drop-take_same, front_and_middle, taken_len}
+use Rattle.session.specs.TrackSteps.{Tracks, TakeIn, course_of, IsOpened, CallerState, come, answer_frames}
+use Rattle.session.proofs.Tracks.Deliveries.{Comes, answers_come}
+use Rattle.session.proofs.Packets.FramesArePackets.{answers_are_packets}
+use Rattle.session.proofs.Tracks.OneEnd.{CallerHas, caller_tracks}
+use Rattle.session.proofs.Lists.{All-take, All-drop, drop-take_same, prefix_and_middle, taken_len}
 use Rattle.session.proofs.plan.Plan.deliver.Goals as goal
 
 -- the calls whose answers wait
@@ -44,11 +44,11 @@ take_all_in-requires-clause-answers c =
     (waiting (course_of p), each_waiting p (course_of p) t, rw (c.in_ok-packets.ensures, c.as_slice.ensures.value, c.replace-bytes.ensures.value) (waiting_packets p (course_of p) t))
 
 -- the course and the plan after the answers have come
-come_moved : (p q : Plan) (c : Course) (t : Tracks p c) (r : Comes p.service c (take t.answers (answer_frames p.service c)) (waiting c))
+caller_has : (p q : Plan) (c : Course) (t : Tracks p c) (r : Comes p.service c (take t.answers (answer_frames p.service c)) (waiting c))
     → TakeIn p.service (waiting c) p.calls.items p.got.items q.calls.items q.got.items
     → q.closed ≡ p.closed → q.to_caller.items ≡ []
-    → IsMoved p q c (record r.end { delivered = length (answers_stream p.service c) }) c.answered
-come_moved p q c t r takes same_closed empty =
+    → CallerHas p q c (record r.end { delivered = length (answers_stream p.service c) }) c.answered
+caller_has p q c t r takes same_closed empty =
     let s = p.service in
     let ps = take t.answers (answer_frames s c) in
     let caller : ◌≡◌ {A = CallerState} (record { calls = q.calls.items; got = q.got.items }) (record { calls = r.end.calls; got = got_rows (ps ++ map (answer_frame s) (waiting c)) r.end.fates }) =
@@ -61,7 +61,7 @@ come_moved p q c t r takes same_closed empty =
     simp length-drop (ap (λ n. n - length c.fates) (sym (length-map (answered_calls c) (answer_frame s)) ∙ ap length (sym (take-map (answer_frame s) c.answered (opened c))) ∙ total)) in
     let counted : length c.fates + length (waiting c) ≡ c.answered = omega arith in
     let together : ps ++ map (answer_frame s) (waiting c) ≡ take c.answered (answer_frames s c) =
-    ap (λ fs. ps ++ fs) (sym (waiting_frames p c t)) ∙ front_and_middle t.answers c.answered (answer_frames s c) t.answers_within in
+    ap (λ fs. ps ++ fs) (sym (waiting_frames p c t)) ∙ prefix_and_middle t.answers c.answered (answer_frames s c) t.answers_within in
     record {
       opened_is = r.opened_is;
       served_is = ap (λ (e : Course). e.served) r.rest;
@@ -87,14 +87,14 @@ returns c =
     let course = course_of p in
     let s = p.service in
     let q : Plan = record p { calls = c.take_all_in.new.calls; got = c.take_all_in.new.got; to_caller = c.replace-bytes.new.dest } in
-    let r = comes s course (take t.answers (answer_frames s course)) (waiting course) (got_len p course t) in
+    let r = answers_come s course (take t.answers (answer_frames s course)) (waiting course) (got_len p course t) in
     let packets : c.in_ok-packets.packets.items ≡ map (answer_frame s) (waiting course) =
     rw (c.in_ok-packets.ensures, c.as_slice.ensures.value, c.replace-bytes.ensures.value) (waiting_packets p course t) in
     record {
       same = record { service_is = refl; events_are = refl; done_is = refl };
       tracks =
           subst (λ (end : Course). Tracks q (record end { delivered = length (answers_stream s course) })) (sym r.end_is)
-          (moved p q course (record r.end { delivered = length (answers_stream s course) }) course.answered t
-          (come_moved p q course t r (c.in_ok-take_all_in.ensures (waiting course) (each_waiting p course t) packets) refl
+          (caller_tracks p q course (record r.end { delivered = length (answers_stream s course) }) course.answered t
+          (caller_has p q course t r (c.in_ok-take_all_in.ensures (waiting course) (each_waiting p course t) packets) refl
           (rw c.replace-bytes.ensures.after c.new.ensures.items)));
     }

@@ -1,8 +1,8 @@
 use Rattle.std.proofs.Common.{ap, ◌∙◌, [], ◌∷◌, ◌++◌}
 use Rattle.std.specs.List.{filter_map}
 use Rattle.session.specs.Planned.{picked_step, reported_step}
-use Rattle.session.specs.Tracks.{course_of}
-use Rattle.session.proofs.ReportLemmas.{report_is}
+use Rattle.session.specs.TrackSteps.{course_of}
+use Rattle.session.proofs.Tracks.Reports.{report_is}
 use Rattle.session.proofs.plan.Plan.into_report.Goals as goal
 
 pub returns : goal.returns

@@ -2,8 +2,8 @@ use Rattle.std.proofs.Common.{◌≡◌, ◌+◌, ◌++◌, ℕ, List, refl, ap,
 use Rattle.session_model.specs.declared.link_log.SentRow.{SentRow}
 use Rattle.session.specs.RpcPackets.{request_frame}
 use Rattle.session.specs.Services.{request_of}
-use Rattle.session.specs.Tracks.{course_of}
-use Rattle.session.proofs.CallLemmas.{opened_tracks}
+use Rattle.session.specs.TrackSteps.{course_of}
+use Rattle.session.proofs.Tracks.Calls.{opened_tracks}
 use Rattle.session.proofs.plan.Plan.open.Goals as goal
 
 row_of_call : (call : ℕ) {f g : List ℕ} → f ≡ g → ◌≡◌ {A = SentRow} (record { call = call; frame = f }) (record { call = call; frame = g })

@@ -1,5 +1,5 @@
 use Rattle.std.proofs.Common.{◌≡◌, ◌-◌, length}
-use Rattle.session.specs.Tracks.{Tracks, course_of}
+use Rattle.session.specs.TrackSteps.{Tracks, course_of}
 use Rattle.session.proofs.plan.Plan.run.Given as goal
 
 -- the script stays, and what the plan keeps is what has happened

@@ -1,5 +1,5 @@
 use Rattle.std.proofs.Common.{◌+◌, ap}
-use Rattle.session.proofs.EventLemmas.{ints_at, advanced}
+use Rattle.session.proofs.Tracks.Events.{ints_at, advanced}
 use Rattle.session.proofs.plan.Plan.step.Goals as goal
 
 pub happen-requires-clause-ints : goal.happen-requires-clause-ints

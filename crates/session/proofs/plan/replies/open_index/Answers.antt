@@ -5,7 +5,7 @@ use Rattle.std.specs.List.{list_any}
 use Rattle.session.specs.declared.call_state.CallState.{CallState}
 use Rattle.session_model.specs.declared.report.End.{End}
 use Rattle.session.specs.Courses.{is_open_under, settle}
-use Rattle.session.specs.Tracks.{IsOpenAt}
+use Rattle.session.specs.TrackSteps.{IsOpenAt}
 use Rattle.session.proofs.Lists.{same_head}
 use Rattle.session.proofs.plan.replies.open_index.Goals as goal
 

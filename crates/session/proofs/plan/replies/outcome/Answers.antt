@@ -1,6 +1,6 @@
 use Rattle.std.proofs.Common.{[], ◌∷◌, ◌∙◌}
 use Rattle.tars_model.specs.declared.value.Value.{Num}
-use Rattle.session.proofs.ServiceLemmas.{sum_replied}
+use Rattle.session.proofs.Packets.Services.{sum_replied}
 use Rattle.session.proofs.plan.replies.outcome.Goals as goal
 
 pub read_body-requires-clause-written : goal.read_body-requires-clause-written

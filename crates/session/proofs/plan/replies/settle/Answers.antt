@@ -9,8 +9,8 @@ use Rattle.session.specs.declared.rpc_packet.response.Response.{Response}
 use Rattle.session.specs.declared.service.Service.{Service}
 use Rattle.session.specs.Courses.{Opened, is_open_under, settle, outcome}
 use Rattle.session.specs.Services.{reply_to, response_of}
-use Rattle.session.specs.Tracks.{IsOpenAt, Settles}
-use Rattle.session.proofs.ServiceLemmas.{id_of_response}
+use Rattle.session.specs.TrackSteps.{IsOpenAt, Settles}
+use Rattle.session.proofs.Packets.Services.{id_of_response}
 use Rattle.session.proofs.plan.replies.settle.Goals as goal
 
 -- where no call is open under an id, nothing is settled

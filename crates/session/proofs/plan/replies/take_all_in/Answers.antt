@@ -4,7 +4,7 @@ use Rattle.session_model.specs.declared.link_log.GotRow.{GotRow}
 use Rattle.session.specs.declared.call_state.CallState.{CallState}
 use Rattle.session.specs.declared.service.Service.{Service}
 use Rattle.session.specs.Courses.{Opened, answer_frame}
-use Rattle.session.specs.Tracks.{IsOpened, CallerState, come, TakesIn}
+use Rattle.session.specs.TrackSteps.{IsOpened, CallerState, come, TakesIn}
 use Rattle.session.proofs.plan.replies.take_all_in.Goals as goal
 
 -- the first of the calls whose answers are left, and the others

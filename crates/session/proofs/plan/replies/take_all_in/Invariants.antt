@@ -1,7 +1,7 @@
 use Rattle.std.proofs.Common.{◌≡◌, List, length, map}
 use Rattle.std.specs.List.{AllByRecursion, fold}
 use Rattle.session.specs.Courses.{Opened, answer_frame}
-use Rattle.session.specs.Tracks.{IsOpened, come}
+use Rattle.session.specs.TrackSteps.{IsOpened, come}
 use Rattle.session.proofs.plan.replies.take_all_in.Given as goal
 
 -- what is left are the answers to these calls, and taking them in leads where taking in all does

@@ -1,6 +1,6 @@
 use Rattle.std.proofs.Common.{rules}
 use Rattle.session.specs.Services.{service_of}
-use Rattle.session.proofs.LoadedLemmas.{sound_as}
+use Rattle.session.proofs.Loads.Loaded.{sound_as}
 use Rattle.session.proofs.service.Service.of.Goals as goal
 
 pub returns-clause-sound : goal.returns-clause-sound
