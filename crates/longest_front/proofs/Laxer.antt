@@ -16,10 +16,10 @@ pub record At {State Letter Why : Type 0} (step : State → Letter → Result St
   pub letter : Letter
   pub fits : Fits letter
   pub within : place < length word
-  pub front : List Letter
-  pub front_fits : AllByRecursion Fits front
-  pub front_is : take (suc place) word ≡ front ++ letter ∷ []
-  pub reached : after step start front ≡ Ok state
+  pub prefix : List Letter
+  pub prefix_fits : AllByRecursion Fits prefix
+  pub prefix_is : take (suc place) word ≡ prefix ++ letter ∷ []
+  pub reached : after step start prefix ≡ Ok state
 
 -- How a machine stops: at the end of the word, which is too short, or at a letter that a step refuses.
 pub data Stopping {State Letter Why : Type 0} (step : State → Letter → Result State Why) (Fits : Letter → Type 0) (short : Why) (start : State) (word : List Letter) (place : ℕ) (why : Why) : Type 0 where
@@ -44,10 +44,10 @@ earlier step Fits short start to letter word place why fits e (at_a_letter at g)
       letter = at.letter;
       fits = at.fits;
       within = let h = at.within in omega arith;
-      front = letter ∷ at.front;
-      front_fits = (fits, at.front_fits);
-      front_is = ap (λ front. letter ∷ front) at.front_is;
-      reached = first_step step start to letter at.front at.state e at.reached;
+      prefix = letter ∷ at.prefix;
+      prefix_fits = (fits, at.prefix_fits);
+      prefix_is = ap (λ prefix. letter ∷ prefix) at.prefix_is;
+      reached = first_step step start to letter at.prefix at.state e at.reached;
     }) g
 
 stops : {State Letter Why : Type 0} (step : State → Letter → Result State Why) (may_end : State → Bool) (short : Why) (Fits : Letter → Type 0) (state : State) (word : List Letter) → AllByRecursion Fits word → StopsSo step Fits short state word (run step may_end short state word)
@@ -65,7 +65,7 @@ stops {State} {Letter} {Why} step may_end short Fits state (letter ∷ word) fit
     go : (r : Result State Why) → step state letter ≡ r → ((to : State) → StopsSo step Fits short to word (run step may_end short to word))
         → StopsSo step Fits short state (letter ∷ word) (elim r [ Ok to ↦ one_later (run step may_end short to word) | Err why ↦ stopped 0 why ])
     go (Ok to) e rec = one_more to e (run step may_end short to word) (rec to)
-    go (Err why) e rec = at_a_letter (record { state = state; letter = letter; fits = fits.0; within = omega arith; front = []; front_fits = tt; front_is = refl; reached = refl }) e
+    go (Err why) e rec = at_a_letter (record { state = state; letter = letter; fits = fits.0; within = omega arith; prefix = []; prefix_fits = tt; prefix_is = refl; reached = refl }) e
 
 -- a machine that stops at a place stops there in one of the two ways
 pub stopping : {State Letter Why : Type 0} (step : State → Letter → Result State Why) (may_end : State → Bool) (short : Why) (Fits : Letter → Type 0) (state : State) (word : List Letter) (place : ℕ) (why : Why) → AllByRecursion Fits word → run step may_end short state word ≡ stopped place why → Stopping step Fits short state word place why
@@ -75,8 +75,8 @@ stopping {State} {Letter} {Why} step may_end short Fits state word place why fit
 
 -- what a step on the last letter says of the words that begin so
 abbrev pub GoesOn : {State Letter Why : Type 0} → (List Letter → Type 0) → List Letter → Result State Why → Type 0
-GoesOn L front (Ok to) = Begins L front
-GoesOn L front (Err why) = Begins L front → ⊥
+GoesOn L prefix (Ok to) = Begins L prefix
+GoesOn L prefix (Err why) = Begins L prefix → ⊥
 
 abbrev pub IsLaxer : {State Letter Why : Type 0} (strict lax : State → Letter → Result State Why) → Type 0
 IsLaxer {State} {Letter} strict lax = (state : State) (letter : Letter) (to : State) → strict state letter ≡ Ok to → lax state letter ≡ Ok to
@@ -90,7 +90,7 @@ same_state a b e = cc
 
 -- the theorem, from a state on
 pub goes_on : {State Letter Why : Type 0} (strict lax : State → Letter → Result State Why) (may_end : State → Bool) (Fits : Letter → Type 0) (L : State → List Letter → Type 0) → IsLaxer strict lax → Reads lax may_end Fits L
-    → (start : State) (front : List Letter) (state : State) (letter : Letter) → AllByRecursion Fits front → Fits letter → after strict start front ≡ Ok state → GoesOn (L start) (front ++ letter ∷ []) (lax state letter)
+    → (start : State) (prefix : List Letter) (state : State) (letter : Letter) → AllByRecursion Fits prefix → Fits letter → after strict start prefix ≡ Ok state → GoesOn (L start) (prefix ++ letter ∷ []) (lax state letter)
 goes_on {State} {Letter} {Why} strict lax may_end Fits L laxer reads start [] state letter fits fit e = at_start state (same_state {Why = Why} start state e)
   where
     here : (r : Result State Why) → ((w : List Letter) → L start (letter ∷ w) → Goes L r w) → ((w : List Letter) → Goes L r w → L start (letter ∷ w)) → GoesOn (L start) (letter ∷ []) r
@@ -99,8 +99,8 @@ goes_on {State} {Letter} {Why} strict lax may_end Fits L laxer reads start [] st
 
     at_start : (state : State) → start ≡ state → GoesOn (L start) (letter ∷ []) (lax state letter)
     at_start state f = subst (λ (s : State). GoesOn (L start) (letter ∷ []) (lax s letter)) f (here (lax start letter) (λ w. reads.there start letter w) (λ w. reads.back start letter w fit))
-goes_on {State} {Letter} {Why} strict lax may_end Fits L laxer reads start (first ∷ front) state letter fits fit e =
-    go (strict start first) refl e (λ to f. goes_on strict lax may_end Fits L laxer reads to front state letter fits.1 fit f)
+goes_on {State} {Letter} {Why} strict lax may_end Fits L laxer reads start (first ∷ prefix) state letter fits fit e =
+    go (strict start first) refl e (λ to f. goes_on strict lax may_end Fits L laxer reads to prefix state letter fits.1 fit f)
   where
     there : (to : State) → lax start first ≡ Ok to → (w : List Letter) → L start (first ∷ w) → L to w
     there to f w x = subst (λ (r : Result State Why). Goes L r w) f (reads.there start first w x)
@@ -108,10 +108,10 @@ goes_on {State} {Letter} {Why} strict lax may_end Fits L laxer reads start (firs
     back : (to : State) → lax start first ≡ Ok to → (w : List Letter) → L to w → L start (first ∷ w)
     back to f w x = reads.back start first w fits.0 (subst (λ (r : Result State Why). Goes L r w) (sym f) x)
 
-    further : (to : State) → lax start first ≡ Ok to → (r : Result State Why) → GoesOn (L to) (front ++ letter ∷ []) r → GoesOn (L start) (first ∷ front ++ letter ∷ []) r
-    further to f (Ok on) g = record { more = g.more; word = back to f ((front ++ letter ∷ []) ++ g.more) g.word }
-    further to f (Err why) g = λ b. g (record { more = b.more; word = there to f ((front ++ letter ∷ []) ++ b.more) b.word })
+    further : (to : State) → lax start first ≡ Ok to → (r : Result State Why) → GoesOn (L to) (prefix ++ letter ∷ []) r → GoesOn (L start) (first ∷ prefix ++ letter ∷ []) r
+    further to f (Ok on) g = record { more = g.more; word = back to f ((prefix ++ letter ∷ []) ++ g.more) g.word }
+    further to f (Err why) g = λ b. g (record { more = b.more; word = there to f ((prefix ++ letter ∷ []) ++ b.more) b.word })
 
-    go : (r : Result State Why) → strict start first ≡ r → IsIn {State = State} {Why = Why} (elim r [ Ok to ↦ after strict to front | Err why ↦ Err why ]) state → ((to : State) → after strict to front ≡ Ok state → GoesOn (L to) (front ++ letter ∷ []) (lax state letter)) → GoesOn (L start) (first ∷ front ++ letter ∷ []) (lax state letter)
+    go : (r : Result State Why) → strict start first ≡ r → IsIn {State = State} {Why = Why} (elim r [ Ok to ↦ after strict to prefix | Err why ↦ Err why ]) state → ((to : State) → after strict to prefix ≡ Ok state → GoesOn (L to) (prefix ++ letter ∷ []) (lax state letter)) → GoesOn (L start) (first ∷ prefix ++ letter ∷ []) (lax state letter)
     go (Ok to) f e rec = further to (laxer start first to f) (lax state letter) (rec to e)
     go (Err why) f e rec = cc

@@ -1,4 +1,4 @@
--- A machine that reads a language takes exactly its words, and stops at the end of the longest front.
+-- A machine that reads a language takes exactly its words, and stops at the end of the longest prefix.
 use Rattle.std.proofs.Common.{inl, inr, ◌≡◌, ◌<◌, ◌≤◌, ℕ, zero, suc, Bool, true, false, List, [], ◌∷◌, ◌++◌, length, take, Result, Ok, Err, refl, arith, subst}
 use Rattle.std.proofs.lemmas.Bool.Decides.{leb_tells}
 use Rattle.std.specs.List.{AllByRecursion}

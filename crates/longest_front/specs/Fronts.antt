@@ -1,12 +1,12 @@
--- Fronts of the words of a language, and the longest one that a word begins with.
+-- Prefixes of the words of a language, and the longest one that a word begins with.
 use Rattle.std.specs.Prelude.{ℕ, ◌<◌, ◌≤◌, List, ◌++◌, length, take}
 
--- some word of the language goes on after this front
-pub record Begins {Letter : Type 0} (L : List Letter → Type 0) (front : List Letter) : Type 0 where
+-- some word of the language goes on after this prefix
+pub record Begins {Letter : Type 0} (L : List Letter → Type 0) (prefix : List Letter) : Type 0 where
   pub more : List Letter
-  pub word : L (front ++ more)
+  pub word : L (prefix ++ more)
 
--- The longest front of the word that some word of the language goes on after has this length: that front
+-- The longest prefix of the word that some word of the language goes on after has this length: that prefix
 -- does go on, and no longer one does.
 pub record FaultAt {Letter : Type 0} (L : List Letter → Type 0) (word : List Letter) (place : ℕ) : Type 0 where
   pub within : place ≤ length word

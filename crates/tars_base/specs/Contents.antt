@@ -7,9 +7,9 @@ abbrev pub Contents : Type 0
 Contents = List ℕ → Option (List ℕ)
 
 -- where contents are told, there is a file of this name, and the bytes are its first ones, at most so many
-abbrev pub IsFrontOfFile : Option Contents → List ℕ → ℕ → List ℕ → Type 0
-IsFrontOfFile None name most bytes = Unit {0}
-IsFrontOfFile (Some files) name most bytes = MatchOption (files name) ⊥ (λ file. bytes ≡ take most file)
+abbrev pub IsPrefixOfFile : Option Contents → List ℕ → ℕ → List ℕ → Type 0
+IsPrefixOfFile None name most bytes = Unit {0}
+IsPrefixOfFile (Some files) name most bytes = MatchOption (files name) ⊥ (λ file. bytes ≡ take most file)
 
 -- this holds, and of nothing else
 pub record HoldsOnly {A : Type 0} (P : A → Type 0) (x : A) : Type 0 where
@@ -21,7 +21,7 @@ abbrev pub IsToldOnly : {A : Type 0} → Option Contents → (Contents → A →
 IsToldOnly None P x = Unit {0}
 IsToldOnly (Some contents) P x = HoldsOnly (P contents) x
 
--- what was written grew by a front of the text
-abbrev pub AppendsFront : Option (List ℕ) → Option (List ℕ) → List ℕ → Type 0
-AppendsFront old new text =
-    (front : List ℕ) × (rest : List ℕ) × (front ++ rest ≡ text) × Appends old new front
+-- what was written grew by a prefix of the text
+abbrev pub AppendsPrefix : Option (List ℕ) → Option (List ℕ) → List ℕ → Type 0
+AppendsPrefix old new text =
+    (prefix : List ℕ) × (rest : List ℕ) × (prefix ++ rest ≡ text) × Appends old new prefix

@@ -1,6 +1,6 @@
 ghost use Rattle.std.specs.Prelude.{◌≡◌, ◌≤◌, ℕ, Option, IfOk, vec_len};
 ghost use Rattle.tars_base.specs.Causes.{HasCauseOf};
-ghost use Rattle.tars_base.specs.Contents.{Contents, IsFrontOfFile};
+ghost use Rattle.tars_base.specs.Contents.{Contents, IsPrefixOfFile};
 
 use crate::ReadFault;
 use std::alloc::Global;
@@ -16,7 +16,7 @@ pub trait Files {
     /// The first `most` bytes of a file, or all of them if it has fewer.
     fn read(&mut self, alloc: Global, name: &str, most: usize) -> Result<Vec<u8>, ReadFault>
         ensures bytes { IfOk result
-            (λ bytes. IsFrontOfFile (contents self.old) name.now most bytes.items) }
+            (λ bytes. IsPrefixOfFile (contents self.old) name.now most bytes.items) }
         ensures within { IfOk result (λ bytes. vec_len bytes ≤ most) }
         ensures same { contents self.new ≡ contents self.old }
         ensures cause { HasCauseOf ReadFault.Failed (faults self.old) (faults self.new) result };

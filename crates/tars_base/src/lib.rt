@@ -1,7 +1,7 @@
 //! The outside of the program: files that are read, a sink that is written, and how a run ends.
 //!
-//! The traits say what a caller may rely on, whatever stands behind them. Each object counts its
-//! faults, and answers an error only where its count rose (`specs/Causes.antt`). Where it tells its
+//! The traits say what a caller may rely on, whatever implements them. Each object counts its
+//! faults, and returns an error only where its count rose (`specs/Causes.antt`). Where it tells its
 //! bytes, the clauses name them (`specs/Contents.antt`); an object that tells nothing is held to the
 //! counts and lengths alone. `MemFiles` and `MemSink` stand in memory and fail at chosen calls. The
 //! objects of the system stand in a crate above, and so do links, clocks and gates.

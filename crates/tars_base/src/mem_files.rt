@@ -1,7 +1,7 @@
 ghost use Rattle.std.specs.Prelude.{◌≡◌, ◌≤◌, ◌↔◌, ◌==◌, ℕ, Some, map, IfOk, IsTrue, IsErrOf, vec_len, option_copied};
 ghost use Rattle.tars_base.specs.Calls.{no_calls, counted};
 ghost use Rattle.tars_base.specs.Causes.{HasCauseOf};
-ghost use Rattle.tars_base.specs.Contents.{IsFrontOfFile};
+ghost use Rattle.tars_base.specs.Contents.{IsPrefixOfFile};
 ghost use Rattle.tars_base.specs.MemFiles.{contents_of, named};
 
 use crate::failing_calls::FailingCalls;
@@ -71,7 +71,7 @@ impl Files for MemFiles {
 
     fn read(&mut self, alloc: Global, name: &str, most: usize) -> Result<Vec<u8>, ReadFault>
         ensures bytes { IfOk result
-            (λ bytes. IsFrontOfFile (Some (contents_of self.old.files)) name.now most bytes.items) }
+            (λ bytes. IsPrefixOfFile (Some (contents_of self.old.files)) name.now most bytes.items) }
         ensures within { IfOk result (λ bytes. vec_len bytes ≤ most) }
         ensures same { self.new.files ≡ self.old.files }
         ensures cause { HasCauseOf ReadFault.Failed self.old.calls.faults self.new.calls.faults result }

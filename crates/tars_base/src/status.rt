@@ -12,7 +12,7 @@ pub enum Status {
     Usage,
     /// A file could not be read. Nothing was written.
     ReadFault,
-    /// A front of the text was written, and no more could be.
+    /// A prefix of the text was written, and no more could be.
     WriteFault,
     /// Memory ran out. Nothing was written.
     Memory,

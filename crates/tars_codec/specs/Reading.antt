@@ -1,4 +1,4 @@
--- Reading from left to right. A reader gives a value with the bytes behind it, or nothing where the
+-- Reading from left to right. A reader gives a value with the bytes after it, or nothing where the
 -- bytes spell no such value.
 use Rattle.std.specs.Prelude.{◌≡◌, ℕ, zero, suc, ◌/◌, ◌%◌, ◌==◌, nat_lt, if◌then◌else◌, ℤ, pos, negsuc, Option, Some, None, Result, Ok, Err, List, [], ◌∷◌, length, take, drop}
 use Rattle.std.specs.Int.{Width, w8, w16, w32, w64, byte_len, from_be_bytes, cast_signed}
@@ -80,7 +80,7 @@ size_at bytes = do
   size ← natural number.0
   Some (size, number.1)
 
--- a text behind its length
+-- a text after its length
 unfoldable pub text_at : WireType → List ℕ → Option (List ℕ × List ℕ)
 text_at wire.String1 bytes = do
   len ← unsigned_at w8 bytes
@@ -95,7 +95,7 @@ text_field_at tag bytes = do
   field ← field_at tag bytes
   text_at field.0 field.1
 
--- the bytes of a simple list, behind its own head and its size
+-- the bytes of a simple list, after its own head and its size
 abbrev pub elements_at : WireType → List ℕ → Option (List ℕ × List ℕ)
 elements_at wire.Int1 bytes = do
   size ← size_at bytes

@@ -50,7 +50,7 @@ fn read_pairs(alloc: Global, count: usize, bytes: &[u8]) -> Result<(Listed<Pair>
     Ok((pairs, rest))
 }
 
-/// The entries of a map, behind their number.
+/// The entries of a map, after their number.
 #[tactic(auto, unfolding(crate::specs::Reading::map_at))]
 fn read_map(
     alloc: Global,

@@ -36,8 +36,8 @@ fn put_value(out: &mut BytesMut, tag: u8, value: &Value) -> Result<(), AllocErro
 {
     match value {
         Value::Num(number) => put_number(out, tag, *number),
-        Value::Text(text) => put_text(out, tag, text.as_slice()),
-        Value::Blob(bytes) => put_blob(out, tag, bytes.as_slice()),
+        Value::Text(text) => put_text(out, tag, text),
+        Value::Blob(bytes) => put_blob(out, tag, bytes),
         Value::Map(pairs) => put_map(out, tag, pairs.as_slice()),
     }
 }

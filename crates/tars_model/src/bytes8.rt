@@ -2,6 +2,7 @@ ghost use Rattle.std.specs.Prelude.{◌≡◌, IfOk};
 
 use std::alloc::{AllocError, Global};
 use std::marker::Model;
+use std::ops::DerefSlice;
 
 /// A string of bytes, which need not be text.
 #[derive(Debug, Drop)]
@@ -42,5 +43,15 @@ impl Bytes8 {
     {
         let Bytes8 { bytes } = self;
         bytes
+    }
+}
+
+impl DerefSlice for Bytes8 {
+    type Elem = u8;
+
+    ghost deref_gives = { λ b bytes. bytes ≡ b };
+
+    fn deref(&self) -> &[u8] {
+        &self.bytes
     }
 }

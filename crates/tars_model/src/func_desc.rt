@@ -4,13 +4,19 @@ ghost use Rattle.tars_model.specs.Members.{MAX_PARAMS, required, params_from, ar
 use crate::{List, Member, Name, Ty, Value};
 use std::alloc::{AllocError, Global};
 
+/// Whether a parameter goes with the call, or comes back with the reply.
+#[derive(Clone, Copy, Debug, PartialEq, Eq)]
+pub enum Direction {
+    In,
+    Out,
+}
+
 /// A parameter of a function.
 #[derive(Debug, Drop)]
 pub struct Param {
     pub name: Name,
     pub ty: Ty,
-    /// Whether it comes back with the reply.
-    pub out: bool,
+    pub direction: Direction,
 }
 
 impl Param {
@@ -37,35 +43,35 @@ pub struct FuncDesc {
     pub params: List<Param>,
 }
 
-/// Adds the members that stand for the parameters with this `out`.
+/// Adds the members that stand for the parameters of a direction.
 fn add_params(
     alloc: Global,
     members: &mut List<Member>,
     params: &[Param],
-    out: bool,
+    direction: Direction,
 ) -> Result<(), AllocError>
     requires { length params.now ≤ MAX_PARAMS }
-    ensures { OnOk result (members.new ≡ members.old ++ params_from 1 out params.now) }
+    ensures { OnOk result (members.new ≡ members.old ++ params_from 1 direction params.now) }
 {
     for (k, param) in params.iter().enumerate() {
-        if param.out == out {
+        if param.direction == direction {
             members.push(param.member(alloc, k as u8 + 1)?)?;
         }
     }
     Ok(())
 }
 
-/// The members of a call's arguments: each parameter that is not `out`, under its number from 1.
+/// The members of a call's arguments: each `In` parameter, under its number from 1.
 pub fn args_of(alloc: Global, f: &FuncDesc) -> Result<List<Member>, AllocError>
     requires { length f.now.params ≤ MAX_PARAMS }
     ensures { IfOk result (λ members. members ≡ arguments_of f.now) }
 {
     let mut members = List::new(alloc);
-    add_params(alloc, &mut members, f.params.as_slice(), false)?;
+    add_params(alloc, &mut members, f.params.as_slice(), Direction::In)?;
     Ok(members)
 }
 
-/// The members of a call's reply: what is returned under 0, and each `out` parameter under its number.
+/// The members of a call's reply: what is returned under 0, and each `Out` parameter under its number.
 pub fn reply_of(alloc: Global, f: &FuncDesc) -> Result<List<Member>, AllocError>
     requires { length f.now.params ≤ MAX_PARAMS }
     ensures { IfOk result (λ members. members ≡ reply_members_of f.now) }
@@ -80,6 +86,6 @@ pub fn reply_of(alloc: Global, f: &FuncDesc) -> Result<List<Member>, AllocError>
             default: Value::Num(0),
         })?;
     }
-    add_params(alloc, &mut members, f.params.as_slice(), true)?;
+    add_params(alloc, &mut members, f.params.as_slice(), Direction::Out)?;
     Ok(members)
 }

@@ -2,6 +2,7 @@ ghost use Rattle.std.specs.Prelude.{◌≡◌, IfOk};
 
 use std::alloc::{AllocError, Global};
 use std::marker::Model;
+use std::ops::DerefSlice;
 
 /// The name of something that an interface file or a script names, as it is written there.
 #[derive(Debug, Drop)]
@@ -36,5 +37,15 @@ impl Name {
         ensures { IfOk result (λ n. n ≡ self.now) }
     {
         Name::from_slice(alloc, self.as_slice())
+    }
+}
+
+impl DerefSlice for Name {
+    type Elem = u8;
+
+    ghost deref_gives = { λ n bytes. bytes ≡ n };
+
+    fn deref(&self) -> &[u8] {
+        &self.bytes
     }
 }

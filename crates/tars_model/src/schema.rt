@@ -28,7 +28,7 @@ impl Schema {
         }
     }
 
-    /// Adds an interface, and answers its number. After an `Err` the schema is as it was.
+    /// Adds an interface, and returns its number. After an `Err` the schema is as it was.
     pub fn add_interface(&mut self, interface: InterfaceDesc) -> Result<u32, AllocError>
         requires { length self.old.interfaces < 2 ^ 32 }
         ensures number { IfOk result (λ k. k ≡ length self.old.interfaces) }

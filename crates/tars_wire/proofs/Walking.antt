@@ -4,4 +4,5 @@ pub mod OneReading
 pub mod OneField
 pub mod Turns
 pub mod Entering
+pub mod Calls
 pub mod Leaving

@@ -25,7 +25,7 @@ IsReason why.BadTag bytes place = (place < length bytes) × Keeps SIZES bytes pl
 IsReason why.Order bytes place = (place < length bytes) × Keeps FIXED_TAGS bytes place × Breaks RISING_TAGS bytes place
 IsReason why.Depth bytes place = (place < length bytes) × Keeps RISING_TAGS bytes place × Breaks ALL bytes place
 
--- The bytes are no body. The place is the length of the longest front that some body goes on from, and the
+-- The bytes are no body. The place is the length of the longest prefix that some body goes on from, and the
 -- reason is what the byte there breaks.
 pub record IsFault (bytes : List ℕ) (fault : WireFault) : Type 0 where
   pub no_body : IsBody bytes → ⊥

@@ -28,7 +28,7 @@ next_field (pairs_left no_pairs) = None
 next_field (pairs_left (pair key v ps)) = Some (0, key)
 next_field (value_left v ps) = Some (1, v)
 
--- what is left behind it
+-- what is left after it
 abbrev pub behind_next : Remaining → Remaining
 behind_next (fields_left no_fields) = fields_left no_fields
 behind_next (fields_left (field tag v fs)) = fields_left fs
@@ -127,7 +127,7 @@ abbrev pub left_over : List Remaining → List Remaining
 left_over [] = []
 left_over (inner ∷ outer) = outer
 
--- Bytes spell what is left at a level, and these are behind it.
+-- Bytes spell what is left at a level, and these come after it.
 abbrev pub LevelLeft : ℕ → Level → Remaining → List ℕ → List ℕ → Type 0
 LevelLeft room level.Body (fields_left fs) bytes rest = (from : ℕ) × Fields room from fs bytes [] × (rest ≡ [])
 LevelLeft room level.Struct (fields_left fs) bytes rest = (from : ℕ) × (mid : List ℕ) × Fields room from fs bytes mid × Head 0 wire.StructEnd mid rest

@@ -107,7 +107,7 @@ pub data Kind : Type 0 where
   of_values : ℕ → Kind
   of_pairs : ℕ → Kind
 
--- Where a head stands. The counts are of those behind this one.
+-- Where a head stands. The counts are of those after this one.
 pub data Context : Type 0 where
   in_struct : (from room : ℕ) → Context
   an_element : (more room : ℕ) → Context
@@ -202,7 +202,7 @@ part_step rules (head_of context) below byte = head_step context below (first_by
 abbrev pub tag_step : Rules → Context → WireType → List Part → ℕ → Result Inside WireWhy
 tag_step rules context type below tag = unless (tag_fault rules (head_context context) type tag) (parts (after context tag type below))
 
--- Before a byte of a body: inside a field, behind which the tags go on with one from `from` on; or behind
+-- Before a byte of a body: inside a field, after which the tags go on with one from `from` on; or after
 -- the first byte of a long head.
 pub data State : Type 0 where
   within : Inside → (from : ℕ) → State

@@ -14,7 +14,7 @@ use Rattle.tars_wire.specs.declared.head.Head.{Head}
 use Rattle.tars_wire.specs.declared.head.FirstByte.{FirstByte}
 use Rattle.tars_wire.specs.declared.head.FirstByte.TheVariants as first
 use Rattle.tars_wire.specs.Spelled.{ALL}
-use Rattle.tars_wire.specs.PrefixSteps.{bytes_front, unsigned_front}
+use Rattle.tars_wire.specs.PrefixSteps.{bytes_prefix, unsigned_prefix}
 use Rattle.tars_wire.specs.MachineSteps.{tag_fault, first_byte, Kind, of_values, of_pairs, in_struct, head_of, counted, Inside, parts, tag_of, part_step, tag_step, State, within, step, may_end}
 
 -- a function returned, seen by view, what reading gives
@@ -47,18 +47,18 @@ unfoldable pub head_at : HeadContext → List ℕ → Result (Head × List ℕ) 
 head_at context [] = Err too_short
 head_at context (byte ∷ rest) = headed context (first_byte ALL context byte) byte rest
 
--- what stands at the front, where the bytes do not end before
+-- what the bytes begin with, where they do not end before
 abbrev pub or_short : {X Y : Type 0} → (X → Y) → Option X → Result Y Stop
 or_short view None = Err too_short
 or_short view (Some x) = Ok (view x)
 
 -- past so many bytes
 unfoldable pub past : ℕ → List ℕ → Result (List ℕ) Stop
-past count bytes = or_short (λ x. x.1) (bytes_front count bytes)
+past count bytes = or_short (λ x. x.1) (bytes_prefix count bytes)
 
 -- a number of a width, the high byte first
 unfoldable pub unsigned_at : Width → List ℕ → Result (ℕ × List ℕ) Stop
-unsigned_at w bytes = or_short (λ x. x) (unsigned_front w bytes)
+unsigned_at w bytes = or_short (λ x. x) (unsigned_prefix w bytes)
 
 -- the same bytes, of a number that is not negative
 unfoldable pub not_negative : List ℕ → Result (List ℕ) Stop

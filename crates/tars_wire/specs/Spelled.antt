@@ -87,7 +87,7 @@ pub record SizeBy (rules : Rules) (n : ℕ) (input rest : List ℕ) : Type 0 whe
   pub size : IsSizeBy rules.sizes number n
 
 mutual
-  -- what stands behind a head of this type
+  -- what comes after a head of this type
   pub data ContentsBy (rules : Rules) : ℕ → WireType → WireValue → List ℕ → List ℕ → Type 0 where
     is_whole : {room : ℕ} {type : WireType} {number : WireNumber} {input rest : List ℕ} → Number type number input rest → ContentsBy rules room type (whole number) input rest
     is_float : {room : ℕ} {bytes input rest : List ℕ} → Bytes bytes input rest → length bytes ≡ 4 → ContentsBy rules room wire.Float (float bytes) input rest

@@ -67,8 +67,8 @@ impl<'a> Cursor<'a> {
         requires { NextIs self.old is_any_type }
         ensures { (left : List Remaining) → IsLeft self.old left → IsLeft self.new (skipped left) }
     {
-        let (head, behind) = known_head(self.rest);
-        self.rest = past_value(MAX_OPEN - self.depth as u8, head.kind, behind);
+        let (head, after) = known_head(self.rest);
+        self.rest = past_value(MAX_OPEN - self.depth as u8, head.kind, after);
         self.here = self.here.less();
     }
 
@@ -78,8 +78,8 @@ impl<'a> Cursor<'a> {
         ensures number { (left : List Remaining) → IsLeft self.old left → of_next number_in (next_of left) ≡ Some result }
         ensures left { (left : List Remaining) → IsLeft self.old left → IsLeft self.new (skipped left) }
     {
-        let (head, behind) = known_head(self.rest);
-        let (number, rest) = known_number(head.kind, behind);
+        let (head, after) = known_head(self.rest);
+        let (number, rest) = known_number(head.kind, after);
         self.rest = rest;
         self.here = self.here.less();
         number
@@ -91,8 +91,8 @@ impl<'a> Cursor<'a> {
         ensures text { (left : List Remaining) → IsLeft self.old left → of_next text_in (next_of left) ≡ Some result.now }
         ensures left { (left : List Remaining) → IsLeft self.old left → IsLeft self.new (skipped left) }
     {
-        let (head, behind) = known_head(self.rest);
-        let (text, rest) = known_text(head.kind, behind);
+        let (head, after) = known_head(self.rest);
+        let (text, rest) = known_text(head.kind, after);
         self.rest = rest;
         self.here = self.here.less();
         text
@@ -104,8 +104,8 @@ impl<'a> Cursor<'a> {
         ensures bytes { (left : List Remaining) → IsLeft self.old left → of_next simple_in (next_of left) ≡ Some result.now }
         ensures left { (left : List Remaining) → IsLeft self.old left → IsLeft self.new (skipped left) }
     {
-        let (_, behind) = known_head(self.rest);
-        let (bytes, rest) = known_simple(behind);
+        let (_, after) = known_head(self.rest);
+        let (bytes, rest) = known_simple(after);
         self.rest = rest;
         self.here = self.here.less();
         bytes
@@ -119,8 +119,8 @@ impl<'a> Cursor<'a> {
         ensures left { (left : List Remaining) → IsLeft self.old left → IsLeft self.new (entered left) }
         ensures inside { HasEntered self.new }
     {
-        let (head, behind) = known_head(self.rest);
-        let (inside, size, rest) = enter_level(head.kind, behind);
+        let (head, after) = known_head(self.rest);
+        let (inside, size, rest) = enter_level(head.kind, after);
         self.outer[self.depth] = self.here.less();
         self.depth += 1;
         self.here = inside;

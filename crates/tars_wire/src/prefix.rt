@@ -3,80 +3,80 @@
 
 ghost use Rattle.std.specs.Prelude.{◌≡◌};
 ghost use Rattle.std.specs.Int.{w8, w16, w32, w64};
-ghost use Rattle.tars_wire.specs.PrefixSteps.{Found, head_front, bytes_front, unsigned_front, signed_front, number_front};
+ghost use Rattle.tars_wire.specs.PrefixSteps.{Found, head_prefix, bytes_prefix, unsigned_prefix, signed_prefix, number_prefix};
 
 use crate::head::{Head, LONG_FORM, halves};
 use crate::wire_type::WireType;
 use byteorder::{BigEndian, ByteOrder};
 
 /// So many bytes.
-#[tactic(auto, unfolding(crate::specs::PrefixSteps::bytes_front))]
+#[tactic(auto, unfolding(crate::specs::PrefixSteps::bytes_prefix))]
 pub fn split_bytes(count: usize, bytes: &[u8]) -> Option<(&[u8], &[u8])>
-    ensures { Found (λ x. (x.0.now, x.1.now)) result (bytes_front count bytes.now) }
+    ensures { Found (λ x. (x.0.now, x.1.now)) result (bytes_prefix count bytes.now) }
 {
     bytes.split_at_checked(count)
 }
 
-#[tactic(auto, unfolding(crate::specs::PrefixSteps::unsigned_front, crate::specs::PrefixSteps::bytes_front))]
+#[tactic(auto, unfolding(crate::specs::PrefixSteps::unsigned_prefix, crate::specs::PrefixSteps::bytes_prefix))]
 pub fn split_u8(bytes: &[u8]) -> Option<(u8, &[u8])>
-    ensures { Found (λ x. (x.0, x.1.now)) result (unsigned_front w8 bytes.now) }
+    ensures { Found (λ x. (x.0, x.1.now)) result (unsigned_prefix w8 bytes.now) }
 {
     let (number, rest) = bytes.split_at_checked(1)?;
     Some((number[0], rest))
 }
 
-#[tactic(auto, unfolding(crate::specs::PrefixSteps::unsigned_front, crate::specs::PrefixSteps::bytes_front))]
+#[tactic(auto, unfolding(crate::specs::PrefixSteps::unsigned_prefix, crate::specs::PrefixSteps::bytes_prefix))]
 pub fn split_u16(bytes: &[u8]) -> Option<(u16, &[u8])>
-    ensures { Found (λ x. (x.0, x.1.now)) result (unsigned_front w16 bytes.now) }
+    ensures { Found (λ x. (x.0, x.1.now)) result (unsigned_prefix w16 bytes.now) }
 {
     let (number, rest) = bytes.split_at_checked(2)?;
     Some((BigEndian::read_u16(number), rest))
 }
 
-#[tactic(auto, unfolding(crate::specs::PrefixSteps::unsigned_front, crate::specs::PrefixSteps::bytes_front))]
+#[tactic(auto, unfolding(crate::specs::PrefixSteps::unsigned_prefix, crate::specs::PrefixSteps::bytes_prefix))]
 pub fn split_u32(bytes: &[u8]) -> Option<(u32, &[u8])>
-    ensures { Found (λ x. (x.0, x.1.now)) result (unsigned_front w32 bytes.now) }
+    ensures { Found (λ x. (x.0, x.1.now)) result (unsigned_prefix w32 bytes.now) }
 {
     let (number, rest) = bytes.split_at_checked(4)?;
     Some((BigEndian::read_u32(number), rest))
 }
 
-#[tactic(auto, unfolding(crate::specs::PrefixSteps::signed_front, crate::specs::PrefixSteps::bytes_front))]
+#[tactic(auto, unfolding(crate::specs::PrefixSteps::signed_prefix, crate::specs::PrefixSteps::bytes_prefix))]
 fn split_i8(bytes: &[u8]) -> Option<(i64, &[u8])>
-    ensures { Found (λ x. (x.0, x.1.now)) result (signed_front w8 bytes.now) }
+    ensures { Found (λ x. (x.0, x.1.now)) result (signed_prefix w8 bytes.now) }
 {
     let (number, rest) = bytes.split_at_checked(1)?;
     Some((i64::from(number[0].cast_signed()), rest))
 }
 
-#[tactic(auto, unfolding(crate::specs::PrefixSteps::signed_front, crate::specs::PrefixSteps::bytes_front))]
+#[tactic(auto, unfolding(crate::specs::PrefixSteps::signed_prefix, crate::specs::PrefixSteps::bytes_prefix))]
 fn split_i16(bytes: &[u8]) -> Option<(i64, &[u8])>
-    ensures { Found (λ x. (x.0, x.1.now)) result (signed_front w16 bytes.now) }
+    ensures { Found (λ x. (x.0, x.1.now)) result (signed_prefix w16 bytes.now) }
 {
     let (number, rest) = bytes.split_at_checked(2)?;
     Some((i64::from(BigEndian::read_i16(number)), rest))
 }
 
-#[tactic(auto, unfolding(crate::specs::PrefixSteps::signed_front, crate::specs::PrefixSteps::bytes_front))]
+#[tactic(auto, unfolding(crate::specs::PrefixSteps::signed_prefix, crate::specs::PrefixSteps::bytes_prefix))]
 fn split_i32(bytes: &[u8]) -> Option<(i64, &[u8])>
-    ensures { Found (λ x. (x.0, x.1.now)) result (signed_front w32 bytes.now) }
+    ensures { Found (λ x. (x.0, x.1.now)) result (signed_prefix w32 bytes.now) }
 {
     let (number, rest) = bytes.split_at_checked(4)?;
     Some((i64::from(BigEndian::read_i32(number)), rest))
 }
 
-#[tactic(auto, unfolding(crate::specs::PrefixSteps::signed_front, crate::specs::PrefixSteps::bytes_front))]
+#[tactic(auto, unfolding(crate::specs::PrefixSteps::signed_prefix, crate::specs::PrefixSteps::bytes_prefix))]
 fn split_i64(bytes: &[u8]) -> Option<(i64, &[u8])>
-    ensures { Found (λ x. (x.0, x.1.now)) result (signed_front w64 bytes.now) }
+    ensures { Found (λ x. (x.0, x.1.now)) result (signed_prefix w64 bytes.now) }
 {
     let (number, rest) = bytes.split_at_checked(8)?;
     Some((BigEndian::read_i64(number), rest))
 }
 
 /// A whole number of a type.
-#[tactic(auto, unfolding(crate::specs::PrefixSteps::number_front))]
+#[tactic(auto, unfolding(crate::specs::PrefixSteps::number_prefix))]
 pub fn split_number(kind: WireType, bytes: &[u8]) -> Option<(i64, &[u8])>
-    ensures { Found (λ x. (x.0, x.1.now)) result (number_front kind bytes.now) }
+    ensures { Found (λ x. (x.0, x.1.now)) result (number_prefix kind bytes.now) }
 {
     match kind {
         WireType::ZeroTag => Some((0, bytes)),
@@ -89,9 +89,9 @@ pub fn split_number(kind: WireType, bytes: &[u8]) -> Option<(i64, &[u8])>
 }
 
 /// A head in either form.
-#[tactic(auto, unfolding(crate::specs::PrefixSteps::head_front))]
+#[tactic(auto, unfolding(crate::specs::PrefixSteps::head_prefix))]
 pub fn split_head(bytes: &[u8]) -> Option<(Head, &[u8])>
-    ensures { Found (λ x. (x.0, x.1.now)) result (head_front bytes.now) }
+    ensures { Found (λ x. (x.0, x.1.now)) result (head_prefix bytes.now) }
 {
     let (first, rest) = bytes.split_first()?;
     let (kind, tag) = halves(*first);

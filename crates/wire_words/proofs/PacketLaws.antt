@@ -1,4 +1,4 @@
--- The packets of a stream: one at its front comes first, and those of joined packets are these.
+-- The packets of a stream: one that begins it comes first, and those of joined packets are these.
 use Rattle.std.proofs.Common.{◌≡◌, ◌<◌, ◌≤◌, ◌^◌, ◌+◌, ℕ, zero, suc, Bool, true, false, cond, List, [], ◌∷◌, ◌++◌, length, take, drop, refl, sym, ap, ◌∙◌, arith, subst, length-append, length-drop}
 use Rattle.std.specs.Prelude.{nat_le, ◌&&◌}
 use Rattle.std.specs.List.{AllByRecursion, flat_map}
@@ -13,7 +13,7 @@ and_parts true true false e = (refl, refl, e)
 and_parts true false c e = cc
 and_parts false b c e = cc
 
--- what it is to have a packet at the front
+-- what it is to begin with a packet
 pub packet_parts : (s : List ℕ) → has_packet s ≡ true → (LENGTH_BYTES ≤ length s) × (MIN_PACKET ≤ first_length s) × (first_length s ≤ length s)
 unfolding has_packet
 packet_parts s e =
@@ -48,7 +48,7 @@ same_packets (suc m) (suc n) s hm hn =
         ap (λ ps. take (first_length s) s ∷ ps) (more (simp length-drop (omega arith)) (simp length-drop (omega arith)))
     go false e more = refl
 
--- one packet at the front, and then the others
+-- one packet, and then the others
 pub packets_of-some : (s : List ℕ) → has_packet s ≡ true → packets_of s ≡ take (first_length s) s ∷ packets_of (drop (first_length s) s)
 unfolding packets_of
 packets_of-some s e = go (length s) refl
@@ -88,7 +88,7 @@ packets_of-packet packet rest p =
         packets_of-some _ has
         ∙ rw first (rw (take_at (framed body) rest (length body + LENGTH_BYTES) long, drop_at (framed body) rest (length body + LENGTH_BYTES) long) refl)
 
--- the packets of packets that stand one behind another are these
+-- the packets of packets that stand one after another are these
 pub packets_of-joined : (packets : List (List ℕ)) → AllByRecursion IsPacket packets → packets_of (flat_map (λ packet. packet) packets) ≡ packets
 packets_of-joined [] all = packets_of-none [] (none_in_empty [] (omega arith))
 packets_of-joined (packet ∷ packets) all =

@@ -18,12 +18,12 @@ framed body = to_be_bytes w32 (length body + LENGTH_BYTES) ++ body
 unfoldable pub first_length : List ℕ → ℕ
 first_length stream = from_be_bytes w32 (take LENGTH_BYTES stream)
 
--- a whole packet is at the front
+-- the stream begins with a whole packet
 unfoldable pub has_packet : List ℕ → Bool
 has_packet stream =
     nat_le LENGTH_BYTES (length stream) && nat_le MIN_PACKET (first_length stream) && nat_le (first_length stream) (length stream)
 
--- the packets at the front of a stream, one after another, at most so many
+-- the packets that begin a stream, one after another, at most so many
 abbrev pub packets_within : ℕ → List ℕ → List (List ℕ)
 packets_within zero stream = []
 packets_within (suc most) stream =

@@ -10,7 +10,7 @@ pub data WireNumber : Type 0 where
   int4 : ℤ → WireNumber
   int8 : ℤ → WireNumber
 
--- a value; a field is a value behind its tag
+-- a value; a field is a value after its tag
 mutual
   pub data WireValue : Type 0 where
     whole : WireNumber → WireValue

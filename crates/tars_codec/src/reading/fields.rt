@@ -49,7 +49,7 @@ pub fn read_size(bytes: &[u8]) -> Result<(usize, &[u8]), ReadError>
     Ok((size, rest))
 }
 
-/// A text behind its length.
+/// A text after its length.
 #[tactic(auto, unfolding(crate::specs::Reading::text_at))]
 pub fn read_text(wire_type: WireType, bytes: &[u8]) -> Result<(&[u8], &[u8]), ReadError>
     ensures { Gives (λ x. (x.0.now, x.1.now)) result (text_at wire_type bytes.now) }

@@ -30,7 +30,7 @@ pub fn put_size(out: &mut BytesMut, size: usize) -> Result<(), AllocError>
     put_number(out, 0, size as i64)
 }
 
-/// A text behind its length, which takes one byte where it can.
+/// A text after its length, which takes one byte where it can.
 pub fn put_text(out: &mut BytesMut, tag: u8, text: &[u8]) -> Result<(), AllocError>
     requires { length text.now < 2 ^ 32 }
     ensures { OnOk result (out.new.items ≡ out.old.items ++ spelled tag (wire_text text.now)) }

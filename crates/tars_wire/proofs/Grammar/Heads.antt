@@ -100,7 +100,7 @@ code_of-type_of n type e = at0 e
     at0 : cond (eqb n 0) (Some wire.Int1) (cond (eqb n 1) (Some wire.Int2) (cond (eqb n 2) (Some wire.Int4) (cond (eqb n 3) (Some wire.Int8) (cond (eqb n 4) (Some wire.Float) (cond (eqb n 5) (Some wire.Double) (cond (eqb n 6) (Some wire.String1) (cond (eqb n 7) (Some wire.String4) (cond (eqb n 8) (Some wire.Map) (cond (eqb n 9) (Some wire.List) (cond (eqb n 10) (Some wire.StructBegin) (cond (eqb n 11) (Some wire.StructEnd) (cond (eqb n 12) (Some wire.ZeroTag) (cond (eqb n 13) (Some wire.SimpleList) (None)))))))))))))) ≡ Some type → n ≡ code_of type
     at0 e = elim (chosen (eqb n 0) (Some wire.Int1) _ type e) [ inl h ↦ eqb_fact n 0 h.0 ∙ ap code_of (some_same wire.Int1 type h.1) | inr h ↦ at1 h.1 ]
 
--- Two heads at the front of the same bytes are one.
+-- Two heads that begin the same bytes are one.
 pub same_head : {tag tag' : ℕ} {type type' : WireType} {input rest rest' : List ℕ} → Head tag type input rest → Head tag' type' input rest' → (tag ≡ tag') × (type ≡ type') × (rest ≡ rest')
 same_head {tag} {tag'} {type} {type'} (short e below) (short e' below') =
     let c = code_below type in let c' = code_below type' in
@@ -111,7 +111,7 @@ same_head {tag} {tag'} {type} {type'} (long e below) (short e' below') =
     let c = code_below type in let c' = code_below type' in absurd (omega arith)
 same_head {tag} {tag'} {type} {type'} (long e below) (long e' below') = (refl, code_same type type' (omega arith), refl)
 
--- what holds behind the second head holds behind the first
+-- what holds after the second head holds after the first
 pub by_head : {tag tag' : ℕ} {type type' : WireType} {input rest rest' : List ℕ} → Head tag type input rest → Head tag' type' input rest' → (P : ℕ → WireType → List ℕ → Type 0) → P tag' type' rest' → P tag type rest
 by_head {tag} {tag'} {type} {type'} {input} {rest} {rest'} h h' P p =
     let same = same_head h h' in

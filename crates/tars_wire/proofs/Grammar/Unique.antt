@@ -1,12 +1,13 @@
 -- Bytes spell one thing at most, and what it is shows where it ends.
-use Rattle.std.proofs.Common.{◌≡◌, ℕ, ◌+◌, ◌-◌, true, false, ℤ, pos, List, [], ◌∷◌, length, refl, sym, ap, ◌∙◌, subst, arith}
+use Rattle.std.proofs.Common.{◌≡◌, ℕ, ◌+◌, ◌-◌, true, ℤ, pos, List, [], ◌∷◌, length, refl, sym, ap, ◌∙◌, subst, arith}
 use Rattle.std.specs.Int.{w8, w16, w32, w64, from_be_bytes}
 use Rattle.wire_words.specs.Tree.{WireNumber, zero_tag, int1, int2, int4, int8, WireValue, whole, float, double, string1, string4, simple_list, list, map, struct, WireValues, value, WirePairs, WireFields}
 use Rattle.tars_wire.specs.declared.wire_type.WireType.{WireType}
 use Rattle.tars_wire.specs.declared.wire_type.WireType.TheVariants as wire
 use Rattle.tars_wire.specs.Heads.{Head, is_end}
-use Rattle.tars_wire.specs.Spelled.{Rules, Bytes, no_bytes, byte, signed, Number, is_zero_tag, is_int1, is_int2, is_int4, is_int8, IsSize, Size, ContentsBy, Contents, is_whole, is_float, is_double, is_string1, is_string4, is_simple_list, is_list, is_map, is_struct, Values, no_more_values, one_value, Pairs, no_more_pairs, one_pair, Fields, no_more_fields, one_field}
+use Rattle.tars_wire.specs.Spelled.{Bytes, no_bytes, byte, signed, Number, is_zero_tag, is_int1, is_int2, is_int4, is_int8, IsSize, Size, Contents, is_whole, is_float, is_double, is_string1, is_string4, is_simple_list, is_list, is_map, is_struct, Values, no_more_values, one_value, Pairs, no_more_pairs, one_pair, Fields, no_more_fields, one_field}
 use Rattle.tars_wire.proofs.Grammar.Heads.{same_head, by_head}
+use Rattle.tars_wire.proofs.Grammar.Types.{not_end}
 
 -- two readings of the same bytes are one
 pub record Same {X : Type 0} (a b : X) (rest rest' : List ℕ) : Type 0 where
@@ -47,21 +48,6 @@ same_size {m} {n} {input} {rest} {rest'} a b =
     let behind : Number a.type b.number a.behind rest' = by_head a.head b.head (λ tag type r. Number type b.number r rest') b.contents in
     let same = same_number a.contents behind in
     record { value = one_size b.number m n (subst (λ (k : WireNumber). IsSize k m) same.value a.size) b.size; left = same.left }
-
-pub not_end : {rules : Rules} {room : ℕ} {type : WireType} {v : WireValue} {input rest : List ℕ} → ContentsBy rules room type v input rest → is_end type ≡ false
-not_end (is_whole is_zero_tag) = refl
-not_end (is_whole (is_int1 bytes e)) = refl
-not_end (is_whole (is_int2 bytes e)) = refl
-not_end (is_whole (is_int4 bytes e)) = refl
-not_end (is_whole (is_int8 bytes e)) = refl
-not_end (is_float bytes e) = refl
-not_end (is_double bytes e) = refl
-not_end (is_string1 fits bytes e) = refl
-not_end (is_string4 size e bytes f) = refl
-not_end (is_simple_list head size bytes e) = refl
-not_end (is_list deep size values) = refl
-not_end (is_map deep size pairs) = refl
-not_end (is_struct deep fields head) = refl
 
 -- where fields can end: at the end of the bytes, or where a struct ends
 pub data Stops : List ℕ → Type 0 where

@@ -1,20 +1,20 @@
--- What stands in a context is a head that may stand there, and what it calls for behind it; and back.
+-- What stands in a context is a head that may stand there, and what it calls for after it; and back.
 use Rattle.std.proofs.Common.{◌≡◌, ℕ, suc, ◌+◌, Bool, true, false, cond, eqb, ltb, List, [], ◌∷◌, None, refl, sym, subst}
 use Rattle.std.specs.Prelude.{◌&&◌}
-use Rattle.wire_words.specs.Tree.{WireNumber, WireValues, value, WirePairs, pair, WireFields, no_fields, field}
+use Rattle.wire_words.specs.Tree.{WireNumber, WireValue, WireValues, value, WirePairs, pair, WireFields, no_fields, field}
 use Rattle.tars_wire.specs.declared.wire_type.WireType.{WireType}
 use Rattle.tars_wire.specs.declared.wire_type.WireType.TheVariants as wire
 use Rattle.tars_wire.specs.declared.head_context.HeadContext.TheVariants as heads
 use Rattle.tars_wire.specs.Heads.{MAX_DEPTH, opens, is_end, Head}
-use Rattle.tars_wire.specs.Spelled.{Rules, FixedHead, Number, is_zero_tag, is_int1, is_int2, is_int4, is_int8, IsSizeBy, ValuesBy, one_value, PairsBy, one_pair, FieldsBy, no_more_fields, one_field}
+use Rattle.tars_wire.specs.Spelled.{Rules, FixedHead, Number, is_zero_tag, is_int1, is_int2, is_int4, is_int8, IsSizeBy, ContentsBy, ValuesBy, one_value, PairsBy, one_pair, FieldsBy, no_more_fields, one_field}
 use Rattle.tars_wire.specs.MachineSteps.{not, is_size, is_int1 as is_int1_type, wrong_tag, order_fault, takes, tag_fault, is_full, is_deep, of_values, of_pairs, Context, in_struct, an_element, a_key, its_value, a_size, simple_head, head_context, Part, head_of, counted, contents, after}
-use Rattle.tars_wire.proofs.Grammar.Unique.{not_end}
+use Rattle.tars_wire.proofs.Grammar.Types.{not_end}
 use Rattle.tars_wire.proofs.Machine.Meaning.{InContext, Parts, Form, Body, body_behind}
 use Rattle.tars_wire.proofs.Machine.Counts.{counted_there, counted_back, size_there, size_back}
 use Rattle.tars_wire.proofs.Machine.Forms.{room_left, contents_there, contents_back, head_fits, above, not_last, from_order, tag_there, tag_back}
 use Rattle.tars_wire.proofs.TestLemmas.{false_true}
 
--- what is behind a head in a context
+-- what comes after a head in a context
 abbrev pub Behind : Rules → Context → List Part → (List ℕ → Type 0) → WireType → ℕ → List ℕ → Type 0
 Behind rules context below After type tag v = Parts rules (after context tag type below) v After
 
@@ -37,37 +37,32 @@ struct_form rules {room = room} {from = from} {mid = mid} rest below After (one_
       behind = subst P (sym (not_end contents_here)) (contents_there rules contents_here (head_of (in_struct (tag + 1) room) ∷ below) After (fs, mid, rest, fields, close, k));
     }
 
-element_form : (rules : Rules) {room more : ℕ} {vs : WireValues} {w rest : List ℕ} (below : List Part) (After : List ℕ → Type 0) → ValuesBy rules room (suc more) vs w rest → Parts rules below rest After → Form rules (heads.Item 0 room) w (Behind rules (an_element more room) below After)
+-- an element, a key or a map's value, and what comes after its head
+item_form : (rules : Rules) {wanted room : ℕ} {type : WireType} {v : WireValue} {w mid next : List ℕ} (Then : WireType → ℕ → List ℕ → Type 0) → FixedHead rules.fixed_tags wanted type w mid → ContentsBy rules room type v mid next → ((tag : ℕ) → Then type tag mid) → Form rules (heads.Item wanted room) w Then
 unfolding takes tag_fault is_full is_deep
-element_form rules {room = room} {more = more} {rest = rest} below After (one_value {type = type} {values = vs} {behind = behind} {next = next} head contents_here values) k =
+item_form rules {type = type} {mid = mid} Then head contents_here goes_on =
     let at = tag_there rules.fixed_tags head in
     record {
       type = type;
       tag = at.tag;
-      rest = behind;
+      rest = mid;
       head = at.head;
       taken = rw (not_end contents_here) refl;
       tag_fits = at.fits;
       not_full = refl;
       not_deep = room_left rules contents_here;
-      behind = contents_there rules contents_here (counted (of_values room) more below) After (counted_there rules (of_values room) more next below After (vs, rest, values, k));
+      behind = goes_on at.tag;
     }
 
+element_form : (rules : Rules) {room more : ℕ} {vs : WireValues} {w rest : List ℕ} (below : List Part) (After : List ℕ → Type 0) → ValuesBy rules room (suc more) vs w rest → Parts rules below rest After → Form rules (heads.Item 0 room) w (Behind rules (an_element more room) below After)
+element_form rules {room = room} {more = more} {rest = rest} below After (one_value {values = vs} {next = next} head contents_here values) k =
+    item_form rules (Behind rules (an_element more room) below After) head contents_here
+    (λ tag. contents_there rules contents_here (counted (of_values room) more below) After (counted_there rules (of_values room) more next below After (vs, rest, values, k)))
+
 key_form : (rules : Rules) {room more : ℕ} {ps : WirePairs} {w rest : List ℕ} (below : List Part) (After : List ℕ → Type 0) → PairsBy rules room (suc more) ps w rest → Parts rules below rest After → Form rules (heads.Item 0 room) w (Behind rules (a_key more room) below After)
-unfolding takes tag_fault is_full is_deep
-key_form rules {room = room} {more = more} {rest = rest} below After (one_pair {key_type = key_type} {type = type} {v = v} {pairs = ps} {key_behind = key_behind} {behind = behind} {next = next} key_head key head contents_here pairs) k =
-    let at = tag_there rules.fixed_tags key_head in
-    record {
-      type = key_type;
-      tag = at.tag;
-      rest = key_behind;
-      head = at.head;
-      taken = rw (not_end key) refl;
-      tag_fits = at.fits;
-      not_full = refl;
-      not_deep = room_left rules key;
-      behind = contents_there rules key (head_of (its_value more room) ∷ below) After (type, v, behind, next, head, contents_here, (ps, rest, pairs, k));
-    }
+key_form rules {room = room} {more = more} {rest = rest} below After (one_pair {type = type} {v = v} {pairs = ps} {behind = behind} {next = next} key_head key head contents_here pairs) k =
+    item_form rules (Behind rules (a_key more room) below After) key_head key
+    (λ tag. contents_there rules key (head_of (its_value more room) ∷ below) After (type, v, behind, next, head, contents_here, (ps, rest, pairs, k)))
 
 size_type : (sizes : Bool) {type : WireType} {number : WireNumber} {w mid : List ℕ} (n : ℕ) → Number type number w mid → IsSizeBy sizes number n → is_size type ≡ true
 size_type sizes n is_zero_tag e = refl
@@ -82,18 +77,8 @@ context_form rules (in_struct from room) w below After x = struct_form rules x.2
 context_form rules (an_element more room) w below After x = element_form rules below After x.2 x.3
 context_form rules (a_key more room) w below After x = key_form rules below After x.2 x.3
 context_form rules (its_value more room) w below After x =
-    let at = tag_there rules.fixed_tags x.4 in
-    record {
-      type = x.0;
-      tag = at.tag;
-      rest = x.2;
-      head = at.head;
-      taken = rw (not_end x.5) refl;
-      tag_fits = at.fits;
-      not_full = refl;
-      not_deep = room_left rules x.5;
-      behind = contents_there rules x.5 (counted (of_pairs room) more below) After (counted_there rules (of_pairs room) more x.3 below After x.6);
-    }
+    item_form rules (Behind rules (its_value more room) below After) x.4 x.5
+    (λ tag. contents_there rules x.5 (counted (of_pairs room) more below) After (counted_there rules (of_pairs room) more x.3 below After x.6))
 context_form rules (a_size kind) w below After x =
     let at = tag_there rules.fixed_tags x.2.head in
     record {

@@ -157,8 +157,8 @@ module _ (w : List ℕ) (fits : AllByRecursion IsByte w) where
 
   goes : (rules : Rules) → ((state : State) (byte : ℕ) (to : State) → step ALL state byte ≡ Ok to → step rules state byte ≡ Ok to) → (place : ℕ) (at : At (step ALL) IsByte START w place) → GoesOn (Language rules START) (take (suc place) w) (step rules at.state at.letter)
   goes rules laxer place at =
-      let P : List ℕ → Type 0 = λ front. GoesOn (Language rules START) front (step rules at.state at.letter) in
-      subst P (sym at.front_is) (goes_on (step ALL) (step rules) may_end IsByte (Language rules) laxer (reads rules) START at.front at.state at.letter at.front_fits at.fits at.reached)
+      let P : List ℕ → Type 0 = λ prefix. GoesOn (Language rules START) prefix (step rules at.state at.letter) in
+      subst P (sym at.prefix_is) (goes_on (step ALL) (step rules) may_end IsByte (Language rules) laxer (reads rules) START at.prefix at.state at.letter at.prefix_fits at.fits at.reached)
 
   at_letter : (place : ℕ) (reason : WireWhy) (at : At (step ALL) IsByte START w place) → step ALL at.state at.letter ≡ Err reason → Judged reason w place
   at_letter place reason at e =

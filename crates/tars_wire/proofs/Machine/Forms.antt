@@ -1,4 +1,4 @@
--- What stands in a context is a head that may stand there, and what it calls for behind it.
+-- What stands in a context is a head that may stand there, and what it calls for after it.
 use Rattle.std.proofs.Common.{◌≡◌, ◌<◌, ◌≤◌, ℕ, ◌+◌, ◌*◌, Bool, true, false, cond, eqb, leb, ltb, List, [], ◌∷◌, Some, None, length, refl, sym, ◌∙◌, subst, arith}
 use Rattle.std.specs.Prelude.{◌&&◌, ◌||◌}
 use Rattle.std.specs.Int.{w8, w16, w32, w64}
@@ -9,9 +9,9 @@ use Rattle.tars_wire.specs.declared.wire_type.WireType.{WireType}
 use Rattle.tars_wire.specs.declared.wire_type.WireType.TheVariants as wire
 use Rattle.tars_wire.specs.declared.wire_fault.WireWhy.TheVariants as why
 use Rattle.tars_wire.specs.Heads.{opens, is_end, Head, short, long}
-use Rattle.tars_wire.specs.Spelled.{Rules, When, FixedHead, signed, is_zero_tag, is_int1, is_int2, is_int4, is_int8, ContentsBy, is_whole, is_float, is_double, is_string1, is_string4, is_simple_list, is_list, is_map, is_struct}
+use Rattle.tars_wire.specs.Spelled.{Rules, When, FixedHead, Bytes, signed, is_zero_tag, is_int1, is_int2, is_int4, is_int8, ContentsBy, is_whole, is_float, is_double, is_string1, is_string4, is_simple_list, is_list, is_map, is_struct}
 use Rattle.tars_wire.specs.MachineSteps.{wrong_tag, order_fault, of_bytes, Part, contents}
-use Rattle.tars_wire.proofs.Machine.Meaning.{Parts}
+use Rattle.tars_wire.proofs.Machine.Meaning.{Run, Parts}
 use Rattle.tars_wire.proofs.Machine.Counts.{run_there, run_back, value_of, later_there, later_back, value_four}
 
 not_zero : (depth : Bool) (room : ℕ) → When depth (0 < room) → (depth && eqb room 0) ≡ false
@@ -69,27 +69,21 @@ above_zero : (depth : Bool) (room : ℕ) → (depth && eqb room 0) ≡ false →
 above_zero true room e = grind (arith, nat_tests)
 above_zero false room e = tt
 
+-- contents that are so many bytes
+bytes_back : (rules : Rules) {room : ℕ} {type : WireType} (n : ℕ) (make : List ℕ → WireValue) (w : List ℕ) (below : List Part) (After : List ℕ → Type 0) → ((bytes rest : List ℕ) → Bytes bytes w rest → length bytes ≡ n → ContentsBy rules room type (make bytes) w rest) → Run n w (λ v. Parts rules below v After) → SomeContents rules room type w (λ v. Parts rules below v After)
+bytes_back rules n make w below After reads x =
+    let some = run_back n w (λ v. Parts rules below v After) x in
+    record { v = make some.bytes; rest = some.rest; spelled = reads some.bytes some.rest some.spelled some.size; after = some.after }
+
 pub contents_back : (rules : Rules) (room : ℕ) (type : WireType) (below : List Part) (w : List ℕ) (After : List ℕ → Type 0) → is_end type ≡ false → (opens type && (rules.depth && eqb room 0)) ≡ false → Parts rules (contents room type below) w After → SomeContents rules room type w (λ v. Parts rules below v After)
 contents_back rules room wire.ZeroTag below w After end deep x =
     record { v = whole zero_tag; rest = w; spelled = is_whole is_zero_tag; after = x }
-contents_back rules room wire.Int1 below w After end deep x =
-    let some = run_back 1 w (λ v. Parts rules below v After) x in
-    record { v = whole (int1 (signed w8 some.bytes)); rest = some.rest; spelled = is_whole (is_int1 some.spelled some.size); after = some.after }
-contents_back rules room wire.Int2 below w After end deep x =
-    let some = run_back 2 w (λ v. Parts rules below v After) x in
-    record { v = whole (int2 (signed w16 some.bytes)); rest = some.rest; spelled = is_whole (is_int2 some.spelled some.size); after = some.after }
-contents_back rules room wire.Int4 below w After end deep x =
-    let some = run_back 4 w (λ v. Parts rules below v After) x in
-    record { v = whole (int4 (signed w32 some.bytes)); rest = some.rest; spelled = is_whole (is_int4 some.spelled some.size); after = some.after }
-contents_back rules room wire.Int8 below w After end deep x =
-    let some = run_back 8 w (λ v. Parts rules below v After) x in
-    record { v = whole (int8 (signed w64 some.bytes)); rest = some.rest; spelled = is_whole (is_int8 some.spelled some.size); after = some.after }
-contents_back rules room wire.Float below w After end deep x =
-    let some = run_back 4 w (λ v. Parts rules below v After) x in
-    record { v = float some.bytes; rest = some.rest; spelled = is_float some.spelled some.size; after = some.after }
-contents_back rules room wire.Double below w After end deep x =
-    let some = run_back 8 w (λ v. Parts rules below v After) x in
-    record { v = double some.bytes; rest = some.rest; spelled = is_double some.spelled some.size; after = some.after }
+contents_back rules room wire.Int1 below w After end deep x = bytes_back rules 1 (λ bytes. whole (int1 (signed w8 bytes))) w below After (λ bytes rest is e. is_whole (is_int1 is e)) x
+contents_back rules room wire.Int2 below w After end deep x = bytes_back rules 2 (λ bytes. whole (int2 (signed w16 bytes))) w below After (λ bytes rest is e. is_whole (is_int2 is e)) x
+contents_back rules room wire.Int4 below w After end deep x = bytes_back rules 4 (λ bytes. whole (int4 (signed w32 bytes))) w below After (λ bytes rest is e. is_whole (is_int4 is e)) x
+contents_back rules room wire.Int8 below w After end deep x = bytes_back rules 8 (λ bytes. whole (int8 (signed w64 bytes))) w below After (λ bytes rest is e. is_whole (is_int8 is e)) x
+contents_back rules room wire.Float below w After end deep x = bytes_back rules 4 float w below After (λ bytes rest is e. is_float is e) x
+contents_back rules room wire.Double below w After end deep x = bytes_back rules 8 double w below After (λ bytes rest is e. is_double is e) x
 contents_back rules room wire.String1 below [] After end deep x = absurd x
 contents_back rules room wire.String1 below (size ∷ w) After end deep x =
     let some = run_back (0 * 256 + size) w (λ v. Parts rules below v After) x.1 in

@@ -57,7 +57,7 @@ abbrev pub Parts : Rules → List Part → List ℕ → (List ℕ → Type 0) �
 Parts rules [] w After = After w
 Parts rules (part ∷ below) w After = Awaits rules part w (λ v. Parts rules below v After)
 
--- what is behind a long head's first byte
+-- what comes after a long head's first byte
 abbrev pub Tagged : Rules → HeadContext → WireType → (WireType → ℕ → List ℕ → Type 0) → List ℕ → Type 0
 Tagged rules context type Behind [] = ⊥
 Tagged rules context type Behind (tag ∷ w) = (tag < 256) × (tag_fault rules context type tag ≡ None) × Behind type tag w
@@ -77,7 +77,7 @@ abbrev pub Language : Rules → State → List ℕ → Type 0
 Language rules (within inside from) w = Insides rules inside w (Body rules from)
 Language rules (body_tag from type) w = Tagged rules (heads.Body from) type (body_behind rules) w
 
--- a head that may stand in a context, and what is behind it
+-- a head that may stand in a context, and what comes after it
 pub record Form (rules : Rules) (context : HeadContext) (w : List ℕ) (Behind : WireType → ℕ → List ℕ → Type 0) : Type 0 where
   pub type : WireType
   pub tag : ℕ

@@ -13,7 +13,7 @@ use Rattle.tars_wire.specs.declared.head.FirstByte.TheVariants as first
 use Rattle.tars_wire.specs.Heads.{is_end}
 use Rattle.tars_wire.specs.Spelled.{ALL}
 use Rattle.tars_wire.specs.MachineSteps.{tag_fault, unless, first_byte, Kind, of_bytes, of_values, of_pairs, Context, in_struct, an_element, a_key, its_value, a_size, simple_head, head_context, Part, raw, size_first, size_later, head_of, counted, contents, size_bytes, after, Inside, parts, tag_of, head_step, part_step, tag_step}
-use Rattle.tars_wire.specs.PrefixSteps.{bytes_front, unsigned_front}
+use Rattle.tars_wire.specs.PrefixSteps.{bytes_prefix, unsigned_prefix}
 use Rattle.facts.specs.ResultSteps.{◌>>=◌}
 use Rattle.facts.proofs.ResultLaws.{bind_assoc, bind_same}
 use Rattle.tars_wire.specs.ScanSteps.{or_short, too_short, stops_at, judged_tag, tag_at, headed, head_at, past, unsigned_at, not_negative, size_number, size_at, reading, counted_at, fields_at, text_at, simple_list_at, sized_at, contents_at, item_at, pair_at}
@@ -40,11 +40,11 @@ reading_head context below [] = refl
 reading_head context below (byte ∷ rest) = head_goes context below byte rest (first_byte ALL (head_context context) byte)
 
 past_zero : (w : List ℕ) → past 0 w ≡ Ok w
-unfolding past bytes_front
+unfolding past bytes_prefix
 past_zero w = rw (le-ltb (length w) 0 (omega arith)) refl
 
 past_more : (n b : ℕ) (w : List ℕ) → past (suc n) (b ∷ w) ≡ past n w
-unfolding past bytes_front
+unfolding past bytes_prefix
 past_more n b w = rw (ltb_suc (length w) n) (go (ltb (length w) n))
   where
     go : (t : Bool) → or_short (λ (x : List ℕ × List ℕ). x.1) (cond t None (Some (b ∷ take n w, drop n w))) ≡ or_short (λ (x : List ℕ × List ℕ). x.1) (cond t None (Some (take n w, drop n w)))
@@ -52,7 +52,7 @@ past_more n b w = rw (ltb_suc (length w) n) (go (ltb (length w) n))
     go false = refl
 
 past_short : (n : ℕ) → past (suc n) [] ≡ Err too_short
-unfolding past bytes_front
+unfolding past bytes_prefix
 past_short n = rw (lt-ltb 0 (suc n) (omega arith)) refl
 
 pub reading_raw : (n : ℕ) (below : List Part) (w : List ℕ) → reading (parts (raw n ∷ below)) w ≡ past (suc n) w >>= (λ v. reading (parts below) v)
@@ -99,18 +99,18 @@ ok_pair : (m n : ℕ) (w : List ℕ) → m ≡ n → (let r : Result (ℕ × Lis
 ok_pair m n w e = ap (λ k. Ok (k, w)) e
 
 first_byte_number : (w : List ℕ) → first_at 0 w ≡ unsigned_at w8 w
-unfolding unsigned_at unsigned_front bytes_front
+unfolding unsigned_at unsigned_prefix bytes_prefix
 first_byte_number [] = refl
 first_byte_number (b ∷ w) = rw (le-ltb (suc (length w)) 1 (omega arith)) refl
 
 first_two : (w : List ℕ) → first_at 1 w ≡ unsigned_at w16 w
-unfolding unsigned_at unsigned_front bytes_front
+unfolding unsigned_at unsigned_prefix bytes_prefix
 first_two [] = refl
 first_two (b ∷ []) = refl
 first_two (b ∷ c ∷ w) = rw (le-ltb (suc (suc (length w))) 2 (omega arith)) (ok_pair _ _ w (omega arith))
 
 first_four : (w : List ℕ) → first_at 3 w ≡ unsigned_at w32 w
-unfolding unsigned_at unsigned_front bytes_front
+unfolding unsigned_at unsigned_prefix bytes_prefix
 first_four [] = refl
 first_four (b ∷ []) = refl
 first_four (b ∷ c ∷ []) = refl
@@ -146,7 +146,7 @@ reading_size kind below w =
     ∙ (bind_same (head_at heads.Size w) (λ h. reading (parts (size_bytes kind h.0.kind below)) h.1) (λ h. size_number h.0.kind h.1 >>= (λ x. reading (parts (counted kind x.0 below)) x.1)) (λ h. reading_size_number kind h.0.kind below h.1)
     ∙ sym (bind_assoc (head_at heads.Size w) (λ h. size_number h.0.kind h.1) (λ x. reading (parts (counted kind x.0 below)) x.1)))
 
--- what is awaited behind
+-- what is awaited after it
 abbrev push : Inside → List Part → Inside
 push (parts below) more = parts (below ++ more)
 push (tag_of context type below) more = tag_of context type (below ++ more)
@@ -242,7 +242,7 @@ one_push more byte rest r r' e rec =
     go (Ok to) = rec to
     go (Err fault) = refl
 
--- first what is awaited, then what is behind
+-- first what is awaited, then what comes after it
 pub reading_push : (inside : Inside) (more : List Part) (w : List ℕ) → reading (push inside more) w ≡ reading inside w >>= (λ v. reading (parts more) v)
 reading_push (parts []) more w = refl
 reading_push (parts (part ∷ below)) more [] = refl

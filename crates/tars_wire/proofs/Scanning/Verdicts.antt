@@ -58,7 +58,7 @@ pub run_is : (state : State) (w : List ℕ) → run (step ALL) may_end why.Short
 run_is state [] = end_course (may_end state)
 run_is state (byte ∷ rest) = step_course byte rest (step ALL state byte) (λ to. run_is to rest)
 
--- inside a field, and then behind it
+-- inside a field, and then after it
 lifted : (from byte : ℕ) (rest : List ℕ) (r : Result Inside WireWhy) → ((to : Inside) → judging (within to from) rest ≡ reading to rest >>= (λ v. judging (within (parts []) from) v))
     → elim (lift_step from r) [ Ok to ↦ judging to rest | Err fault ↦ Err (stops_at (byte ∷ rest) fault) ]
     ≡ elim r [ Ok to ↦ reading to rest | Err fault ↦ Err (stops_at (byte ∷ rest) fault) ] >>= (λ v. judging (within (parts []) from) v)

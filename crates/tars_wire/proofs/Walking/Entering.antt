@@ -2,17 +2,18 @@
 use Rattle.std.proofs.Common.{[], ◌≡◌, ◌<◌, ◌≤◌, get_or, length, zero, ℕ, suc, ◌+◌, ◌-◌, ◌*◌, true, IsSome, List, ◌∷◌, Option, Some, None, refl, sym, ap, ◌∙◌, subst, arith}
 use Rattle.std.proofs.Math.ListN.{set}
 use Rattle.std.proofs.lemmas.List.{get_or-set_same, get_or-set_other}
-use Rattle.wire_words.specs.Tree.{WireNumber, WireValue, WireValues, WirePairs}
+use Rattle.wire_words.specs.Tree.{WireValue, WireValues, WirePairs}
 use Rattle.wire_words.specs.Spelling.{count_values, count_pairs}
 use Rattle.tars_wire.specs.declared.wire_type.WireType.{WireType}
 use Rattle.tars_wire.specs.declared.head.Head.{Head as ReadHead}
 use Rattle.tars_wire.specs.declared.level.Level.{Level}
 use Rattle.tars_wire.specs.declared.level.Level.TheVariants as level
 use Rattle.tars_wire.specs.Heads.{MAX_DEPTH, opens}
-use Rattle.tars_wire.specs.Spelled.{Number, is_zero_tag, is_int1, is_int2, is_int4, is_int8, Contents, is_whole, is_float, is_double, is_string1, is_string4, is_simple_list, is_list, is_map, is_struct, Values, no_more_values, one_value, Pairs, no_more_pairs, one_pair}
+use Rattle.tars_wire.specs.Spelled.{Contents, is_whole, is_float, is_double, is_string1, is_string4, is_simple_list, is_list, is_map, is_struct, Values, no_more_values, one_value, Pairs, no_more_pairs, one_pair}
 use Rattle.tars_wire.specs.Left.{AtLevel, left_over, Remaining, size_in, all_inside, next_of, head_left, skipped, entered, inside_next, of_next, LevelLeft, Left, levels_around}
-use Rattle.tars_wire.specs.PrefixSteps.{head_front, entered_front, less}
-use Rattle.tars_wire.proofs.Walking.Prefixes.{size_front_is}
+use Rattle.tars_wire.specs.PrefixSteps.{head_prefix, entered_prefix, less}
+use Rattle.tars_wire.proofs.Walking.Prefixes.{size_prefix_is}
+use Rattle.tars_wire.proofs.Grammar.Types.{number_type, of_no_number}
 use Rattle.tars_wire.proofs.Walking.OneReading.{left_same}
 use Rattle.tars_wire.proofs.Walking.OneField.{Turn, turn}
 use Rattle.tars_wire.proofs.Walking.Turns.{found_first, found_second}
@@ -27,32 +28,25 @@ pub pairs_count : {room n : ℕ} {ps : WirePairs} {w rest : List ℕ} → Pairs 
 pairs_count no_more_pairs = refl
 pairs_count (one_pair {n = n} {pairs = ps} a b h c more) = let e = pairs_count more in let f : 1 + count_pairs ps ≡ suc n = omega arith in f
 
--- what is open behind the head
+-- what is open after the head
 pub record Opens (room : ℕ) (v : WireValue) (type : WireType) (w rest : List ℕ) : Type 0 where
   pub here : Level
   pub size : ℕ
   pub mid : List ℕ
-  pub front : entered_front type w ≡ Some (here, size, mid)
+  pub prefix : entered_prefix type w ≡ Some (here, size, mid)
   pub inside : LevelLeft (room - 1) here (all_inside v) mid rest
   pub is_size : size_in v ≡ Some size
   pub some : 0 < room
 
 pub opens_of : {room : ℕ} {type : WireType} {v : WireValue} {w rest : List ℕ} → Contents room type v w rest → opens type ≡ true → Opens room v type w rest
-unfolding entered_front
+unfolding entered_prefix
 opens_of (is_list {n = n} {values = vs} {behind = behind} some size values) e =
-    record { here = level.List n; size = n; mid = behind; front = rw (size_front_is size) refl; inside = values; is_size = ap (λ k. Some k) (values_count values); some = some }
+    record { here = level.List n; size = n; mid = behind; prefix = rw (size_prefix_is size) refl; inside = values; is_size = ap (λ k. Some k) (values_count values); some = some }
 opens_of (is_map {n = n} {pairs = ps} {behind = behind} some size pairs) e =
-    record { here = level.Map (2 * n); size = n; mid = behind; front = rw (size_front_is size) refl; inside = (n, (let f : 2 * n ≡ n + n = omega arith in f), pairs); is_size = ap (λ k. Some k) (pairs_count pairs); some = some }
+    record { here = level.Map (2 * n); size = n; mid = behind; prefix = rw (size_prefix_is size) refl; inside = (n, (let f : 2 * n ≡ n + n = omega arith in f), pairs); is_size = ap (λ k. Some k) (pairs_count pairs); some = some }
 opens_of (is_struct {input = w} {behind = behind} some fields head) e =
-    record { here = level.Struct; size = 0; mid = w; front = refl; inside = (0, behind, fields, head); is_size = refl; some = some }
-opens_of (is_whole number) e = absurd (no_number number e)
-  where
-    no_number : {type : WireType} {n : WireNumber} {w rest : List ℕ} → Number type n w rest → opens type ≡ true → ⊥
-    no_number is_zero_tag e = false_true e
-    no_number (is_int1 b f) e = false_true e
-    no_number (is_int2 b f) e = false_true e
-    no_number (is_int4 b f) e = false_true e
-    no_number (is_int8 b f) e = false_true e
+    record { here = level.Struct; size = 0; mid = w; prefix = refl; inside = (0, behind, fields, head); is_size = refl; some = some }
+opens_of (is_whole {number = n} number) e = absurd (false_true (sym (ap opens (number_type number) ∙ of_no_number opens (refl, refl, refl, refl, refl) n) ∙ e))
 opens_of (is_float b f) e = absurd (false_true e)
 opens_of (is_double b f) e = absurd (false_true e)
 opens_of (is_string1 g b f) e = absurd (false_true e)
@@ -77,27 +71,27 @@ found_level a b m n x y e = (ap first e, ap second e, ap third e)
 
 module _ (room : ℕ) (l : Level) (levels : List Level) (left : List Remaining) (w : List ℕ) (h : ReadHead)
     (spelled : Left room (l ∷ levels) left w) (is_next : head_left left ≡ Some h) (is_sort : opens h.kind ≡ true)
-    (read : ReadHead) (behind : List ℕ) (is_read : head_front w ≡ Some (read, behind)) where
+    (read : ReadHead) (behind : List ℕ) (is_read : head_prefix w ≡ Some (read, behind)) where
   the_turn : Turn room l levels left w h
   the_turn = turn room l levels left w h spelled is_next
 
   the_opens : Opens room the_turn.v h.kind the_turn.behind the_turn.mid
   the_opens = opens_of the_turn.contents is_sort
 
-  the_front : entered_front read.kind behind ≡ Some (the_opens.here, the_opens.size, the_opens.mid)
-  the_front =
-      ap (λ (k : ReadHead). entered_front k.kind behind) (found_first read h behind the_turn.behind (sym is_read ∙ the_turn.front))
-      ∙ (ap (entered_front h.kind) (found_second read h behind the_turn.behind (sym is_read ∙ the_turn.front)) ∙ the_opens.front)
+  the_prefix : entered_prefix read.kind behind ≡ Some (the_opens.here, the_opens.size, the_opens.mid)
+  the_prefix =
+      ap (λ (k : ReadHead). entered_prefix k.kind behind) (found_first read h behind the_turn.behind (sym is_read ∙ the_turn.prefix))
+      ∙ (ap (entered_prefix h.kind) (found_second read h behind the_turn.behind (sym is_read ∙ the_turn.prefix)) ∙ the_opens.prefix)
 
-  pub enter_needs : IsSome (entered_front read.kind behind)
-  enter_needs = rw the_front refl
+  pub enter_needs : IsSome (entered_prefix read.kind behind)
+  enter_needs = rw the_prefix refl
 
   pub enter_room : 0 < room
   enter_room = the_opens.some
 
-  module _ (here : Level) (size : ℕ) (rest : List ℕ) (got : entered_front read.kind behind ≡ Some (here, size, rest)) where
+  module _ (here : Level) (size : ℕ) (rest : List ℕ) (got : entered_prefix read.kind behind ≡ Some (here, size, rest)) where
     same_parts : (the_opens.here ≡ here) × (the_opens.size ≡ size) × (the_opens.mid ≡ rest)
-    same_parts = found_level the_opens.here here the_opens.size size the_opens.mid rest (sym the_front ∙ got)
+    same_parts = found_level the_opens.here here the_opens.size size the_opens.mid rest (sym the_prefix ∙ got)
 
     in_first : LevelLeft (room - 1) here (inside_next (next_of left)) rest the_turn.mid
     in_first =

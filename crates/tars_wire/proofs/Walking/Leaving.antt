@@ -10,10 +10,10 @@ use Rattle.tars_wire.specs.declared.stop.Stop.{Stop}
 use Rattle.tars_wire.specs.Heads.{opens, Head, short, long}
 use Rattle.tars_wire.specs.ScanSteps.{contents_at}
 use Rattle.tars_wire.specs.Left.{Remaining, fields_left, values_left, pairs_left, value_left, next_field, behind_next, type_of_value, head_in, LevelLeft}
-use Rattle.tars_wire.specs.PrefixSteps.{head_front, less, HasMore}
+use Rattle.tars_wire.specs.PrefixSteps.{head_prefix, less, HasMore}
 use Rattle.tars_wire.specs.Spelled.{ALL}
 use Rattle.tars_wire.proofs.Machine.Forms.{room_left}
-use Rattle.tars_wire.proofs.Walking.Prefixes.{head_front_is, contents_complete}
+use Rattle.tars_wire.proofs.Walking.Prefixes.{head_prefix_is, contents_complete}
 use Rattle.tars_wire.proofs.Scanning.Remainders.{contents_not_longer}
 use Rattle.tars_wire.proofs.Walking.OneField.{OneField, AtEnd, OneOf, one_of}
 use Rattle.tars_wire.proofs.Walking.Turns.{found_first, found_second}
@@ -32,18 +32,18 @@ module _ (room : ℕ) (l : Level) (inner : Remaining) (w after : List ℕ) (x : 
   the_next : (next : ℕ × WireValue) × OneField room l (behind_next inner) w after next.0 next.1
   the_next = some_next room l inner w after (next_field inner) (one_of room l inner w after x) some
 
-  pub next_front : IsSome (head_front w)
-  next_front = rw (head_front_is the_next.1.head) refl
+  pub next_prefix : IsSome (head_prefix w)
+  next_prefix = rw (head_prefix_is the_next.1.head) refl
 
   pub next_more : HasMore l
   next_more = the_next.1.more
 
-  module _ (read : ReadHead) (behind : List ℕ) (is_read : head_front w ≡ Some (read, behind)) where
+  module _ (read : ReadHead) (behind : List ℕ) (is_read : head_prefix w ≡ Some (read, behind)) where
     the_type : read.kind ≡ type_of_value the_next.0.1
-    the_type = ap (λ (k : ReadHead). k.kind) (found_first read (record { tag = the_next.0.0; kind = type_of_value the_next.0.1 }) behind the_next.1.behind (sym is_read ∙ head_front_is the_next.1.head))
+    the_type = ap (λ (k : ReadHead). k.kind) (found_first read (record { tag = the_next.0.0; kind = type_of_value the_next.0.1 }) behind the_next.1.behind (sym is_read ∙ head_prefix_is the_next.1.head))
 
     the_rest : behind ≡ the_next.1.behind
-    the_rest = found_second read (record { tag = the_next.0.0; kind = type_of_value the_next.0.1 }) behind the_next.1.behind (sym is_read ∙ head_front_is the_next.1.head)
+    the_rest = found_second read (record { tag = the_next.0.0; kind = type_of_value the_next.0.1 }) behind the_next.1.behind (sym is_read ∙ head_prefix_is the_next.1.head)
 
     passes : contents_at room read.kind behind ≡ Ok the_next.1.mid
     passes = ap (λ t. contents_at room t behind) the_type ∙ (ap (contents_at room (type_of_value the_next.0.1)) the_rest ∙ contents_complete the_next.1.contents)
@@ -79,15 +79,15 @@ none_next room l inner w after (Some next) x e = absurd (false_true (sym e))
 at_end : (room : ℕ) (l : Level) (inner : Remaining) (w after : List ℕ) → LevelLeft room l inner w after → is_some (head_in (next_field inner)) ≡ false → AtEnd l w after
 at_end room l inner w after x e = none_next room l inner w after (next_field inner) (one_of room l inner w after x) e
 
-pub end_front : (room : ℕ) (l : Level) (inner : Remaining) (w after : List ℕ) → LevelLeft room l inner w after → is_some (head_in (next_field inner)) ≡ false → l ≡ level.Struct → IsSome (head_front w)
-end_front room l inner w after x e f =
+pub end_prefix : (room : ℕ) (l : Level) (inner : Remaining) (w after : List ℕ) → LevelLeft room l inner w after → is_some (head_in (next_field inner)) ≡ false → l ≡ level.Struct → IsSome (head_prefix w)
+end_prefix room l inner w after x e f =
     let close : Head 0 wire.StructEnd w after = subst (λ (k : Level). AtEnd k w after) f (at_end room l inner w after x e) in
-    rw (head_front_is close) refl
+    rw (head_prefix_is close) refl
 
-pub end_struct : (room : ℕ) (l : Level) (inner : Remaining) (w after : List ℕ) (read : ReadHead) (behind : List ℕ) → LevelLeft room l inner w after → is_some (head_in (next_field inner)) ≡ false → l ≡ level.Struct → head_front w ≡ Some (read, behind) → behind ≡ after
+pub end_struct : (room : ℕ) (l : Level) (inner : Remaining) (w after : List ℕ) (read : ReadHead) (behind : List ℕ) → LevelLeft room l inner w after → is_some (head_in (next_field inner)) ≡ false → l ≡ level.Struct → head_prefix w ≡ Some (read, behind) → behind ≡ after
 end_struct room l inner w after read behind x e f is_read =
     let close : Head 0 wire.StructEnd w after = subst (λ (k : Level). AtEnd k w after) f (at_end room l inner w after x e) in
-    found_second read (record { tag = 0; kind = wire.StructEnd }) behind after (sym is_read ∙ head_front_is close)
+    found_second read (record { tag = 0; kind = wire.StructEnd }) behind after (sym is_read ∙ head_prefix_is close)
 
 body_after : (room : ℕ) (inner : Remaining) (w after : List ℕ) → LevelLeft room level.Body inner w after → after ≡ []
 body_after room (fields_left fs) w after x = x.2

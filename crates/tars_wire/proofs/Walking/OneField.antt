@@ -1,57 +1,21 @@
--- The next field of a level stands at the front of its bytes.
+-- The next field of a level begins its bytes.
 use Rattle.std.proofs.Common.{◌≡◌, ◌<◌, ℕ, suc, ◌+◌, ◌-◌, true, false, eqb, IsSome, List, [], ◌∷◌, length, Option, Some, None, refl, sym, ap, ◌∙◌, subst, arith}
 use Rattle.std.proofs.lemmas.Bool.Decides.{nat_tests}
-use Rattle.wire_words.specs.Tree.{WireNumber, zero_tag, int1, int2, int4, int8, WireValue, whole, float, double, string1, string4, simple_list, list, map, struct, WireValues, WirePairs, WireFields}
+use Rattle.wire_words.specs.Tree.{WireValue, WireValues, WirePairs, WireFields}
 use Rattle.tars_wire.specs.declared.wire_type.WireType.{WireType}
 use Rattle.tars_wire.specs.declared.wire_type.WireType.TheVariants as wire
 use Rattle.tars_wire.specs.declared.head.Head.{Head as ReadHead}
 use Rattle.tars_wire.specs.declared.level.Level.{Level}
 use Rattle.tars_wire.specs.declared.level.Level.TheVariants as level
 use Rattle.tars_wire.specs.Heads.{is_end, Head, short, long}
-use Rattle.tars_wire.specs.Spelled.{Number, is_zero_tag, is_int1, is_int2, is_int4, is_int8, Contents, is_whole, is_float, is_double, is_string1, is_string4, is_simple_list, is_list, is_map, is_struct, Values, no_more_values, one_value, Pairs, no_more_pairs, one_pair, Fields, no_more_fields, one_field}
-use Rattle.tars_wire.specs.Left.{Remaining, fields_left, values_left, pairs_left, value_left, next_field, behind_next, type_of_number, type_of_value, next_of, head_in, head_left, skipped, LevelLeft, Left}
-use Rattle.tars_wire.specs.PrefixSteps.{head_front, less, HasMore, is_over}
-use Rattle.tars_wire.proofs.Walking.Prefixes.{head_front_is}
+use Rattle.tars_wire.specs.Spelled.{Contents, Values, no_more_values, one_value, Pairs, no_more_pairs, one_pair, Fields, no_more_fields, one_field}
+use Rattle.tars_wire.specs.Left.{Remaining, fields_left, values_left, pairs_left, value_left, next_field, behind_next, type_of_value, next_of, head_in, head_left, skipped, LevelLeft, Left}
+use Rattle.tars_wire.specs.PrefixSteps.{head_prefix, less, HasMore, is_over}
+use Rattle.tars_wire.proofs.Grammar.Types.{value_type, no_end}
+use Rattle.tars_wire.proofs.Walking.Prefixes.{head_prefix_is}
 use Rattle.tars_wire.proofs.TestLemmas.{false_true}
 
--- a value is spelled under its type
-number_type : {type : WireType} {n : WireNumber} {w rest : List ℕ} → Number type n w rest → type ≡ type_of_number n
-number_type is_zero_tag = refl
-number_type (is_int1 b e) = refl
-number_type (is_int2 b e) = refl
-number_type (is_int4 b e) = refl
-number_type (is_int8 b e) = refl
-
-pub value_type : {room : ℕ} {type : WireType} {v : WireValue} {w rest : List ℕ} → Contents room type v w rest → type ≡ type_of_value v
-value_type (is_whole n) = number_type n
-value_type (is_float b e) = refl
-value_type (is_double b e) = refl
-value_type (is_string1 f b e) = refl
-value_type (is_string4 s e b f) = refl
-value_type (is_simple_list h s b e) = refl
-value_type (is_list d s v) = refl
-value_type (is_map d s v) = refl
-value_type (is_struct d f h) = refl
-
-no_end_number : (n : WireNumber) → is_end (type_of_number n) ≡ false
-no_end_number zero_tag = refl
-no_end_number (int1 n) = refl
-no_end_number (int2 n) = refl
-no_end_number (int4 n) = refl
-no_end_number (int8 n) = refl
-
-pub no_end : (v : WireValue) → is_end (type_of_value v) ≡ false
-no_end (whole n) = no_end_number n
-no_end (float b) = refl
-no_end (double b) = refl
-no_end (string1 b) = refl
-no_end (string4 b) = refl
-no_end (simple_list b) = refl
-no_end (list vs) = refl
-no_end (map ps) = refl
-no_end (struct fs) = refl
-
--- a field at the front, and what is left behind it
+-- a field that begins the bytes, and what is left after it
 pub record OneField (room : ℕ) (l : Level) (inner : Remaining) (w rest : List ℕ) (tag : ℕ) (v : WireValue) : Type 0 where
   pub behind : List ℕ
   pub mid : List ℕ
@@ -121,8 +85,8 @@ one_of room l inner w rest x = absurd x
 -- ---- whether a field is next
 
 abbrev HeadCase : List ℕ → Option (ℕ × WireValue) → Type 0
-HeadCase w None = (behind : List ℕ) × (head_front w ≡ Some (record { tag = 0; kind = wire.StructEnd }, behind))
-HeadCase w (Some next) = (behind : List ℕ) × (head_front w ≡ Some (record { tag = next.0; kind = type_of_value next.1 }, behind))
+HeadCase w None = (behind : List ℕ) × (head_prefix w ≡ Some (record { tag = 0; kind = wire.StructEnd }, behind))
+HeadCase w (Some next) = (behind : List ℕ) × (head_prefix w ≡ Some (record { tag = next.0; kind = type_of_value next.1 }, behind))
 
 over_false : (n : ℕ) → n ≡ 0 → eqb n 0 ≡ false → ⊥
 over_false n e f = grind (arith, nat_tests)
@@ -132,9 +96,9 @@ no_length w e = ap length e
 
 head_case : (room : ℕ) (l : Level) (inner : Remaining) (w rest : List ℕ) (o : Option (ℕ × WireValue)) → OneOf room l inner w rest o → is_over l w ≡ false → HeadCase w o
 unfolding is_over
-head_case room l inner w rest (Some next) x e = (x.behind, head_front_is x.head)
+head_case room l inner w rest (Some next) x e = (x.behind, head_prefix_is x.head)
 head_case room level.Body inner w rest None x e = absurd (over_false (length w) (no_length w x) e)
-head_case room level.Struct inner w rest None x e = (rest, head_front_is x)
+head_case room level.Struct inner w rest None x e = (rest, head_prefix_is x)
 head_case room (level.List n) inner w rest None x e = absurd (over_false n x.0 e)
 head_case room (level.Map n) inner w rest None x e = absurd (over_false n x.0 e)
 
@@ -156,11 +120,11 @@ over_none room (level.Map n) inner w rest (Some next) x e = absurd (over_true n 
 pub level_is_over : (room : ℕ) (l : Level) (inner : Remaining) (w rest : List ℕ) → LevelLeft room l inner w rest → is_over l w ≡ true → None ≡ head_in (next_field inner)
 level_is_over room l inner w rest x e = sym (ap head_in (over_none room l inner w rest (next_field inner) (one_of room l inner w rest x) e))
 
-head_is_some : (w : List ℕ) (o : Option (ℕ × WireValue)) → HeadCase w o → IsSome (head_front w)
+head_is_some : (w : List ℕ) (o : Option (ℕ × WireValue)) → HeadCase w o → IsSome (head_prefix w)
 head_is_some w None h = rw h.1 refl
 head_is_some w (Some next) h = rw h.1 refl
 
-pub head_is_there : (room : ℕ) (l : Level) (inner : Remaining) (w rest : List ℕ) → LevelLeft room l inner w rest → is_over l w ≡ false → IsSome (head_front w)
+pub head_is_there : (room : ℕ) (l : Level) (inner : Remaining) (w rest : List ℕ) → LevelLeft room l inner w rest → is_over l w ≡ false → IsSome (head_prefix w)
 head_is_there room l inner w rest x e = head_is_some w (next_field inner) (head_case room l inner w rest (next_field inner) (one_of room l inner w rest x) e)
 
 heads_same : (a b : ReadHead) (x y : List ℕ) → (let s : Option (ReadHead × List ℕ) = Some (a, x) in s) ≡ Some (b, y) → a ≡ b
@@ -170,22 +134,22 @@ heads_same a b x y e = ap first_head e
     first_head None = a
     first_head (Some h) = h.0
 
-case_head : (w : List ℕ) (h : ReadHead) (behind : List ℕ) (o : Option (ℕ × WireValue)) → HeadCase w o → head_front w ≡ Some (h, behind) → is_end h.kind ≡ false → Some h ≡ head_in o
+case_head : (w : List ℕ) (h : ReadHead) (behind : List ℕ) (o : Option (ℕ × WireValue)) → HeadCase w o → head_prefix w ≡ Some (h, behind) → is_end h.kind ≡ false → Some h ≡ head_in o
 case_head w h behind None c e f =
     let s = heads_same h (record { tag = 0; kind = wire.StructEnd }) behind c.0 (sym e ∙ c.1) in
     absurd (false_true (sym f ∙ ap (λ (x : ReadHead). is_end x.kind) s))
 case_head w h behind (Some next) c e f = ap (λ (x : ReadHead). Some x) (heads_same h (record { tag = next.0; kind = type_of_value next.1 }) behind c.0 (sym e ∙ c.1))
 
-case_none : (w : List ℕ) (h : ReadHead) (behind : List ℕ) (o : Option (ℕ × WireValue)) → HeadCase w o → head_front w ≡ Some (h, behind) → is_end h.kind ≡ true → None ≡ head_in o
+case_none : (w : List ℕ) (h : ReadHead) (behind : List ℕ) (o : Option (ℕ × WireValue)) → HeadCase w o → head_prefix w ≡ Some (h, behind) → is_end h.kind ≡ true → None ≡ head_in o
 case_none w h behind None c e f = refl
 case_none w h behind (Some next) c e f =
     let s = heads_same h (record { tag = next.0; kind = type_of_value next.1 }) behind c.0 (sym e ∙ c.1) in
     absurd (false_true (sym (no_end next.1) ∙ (sym (ap (λ (x : ReadHead). is_end x.kind) s) ∙ f)))
 
-pub head_is_next : (room : ℕ) (l : Level) (inner : Remaining) (w rest : List ℕ) (h : ReadHead) (behind : List ℕ) → is_over l w ≡ false → head_front w ≡ Some (h, behind) → is_end h.kind ≡ false → LevelLeft room l inner w rest → Some h ≡ head_in (next_field inner)
+pub head_is_next : (room : ℕ) (l : Level) (inner : Remaining) (w rest : List ℕ) (h : ReadHead) (behind : List ℕ) → is_over l w ≡ false → head_prefix w ≡ Some (h, behind) → is_end h.kind ≡ false → LevelLeft room l inner w rest → Some h ≡ head_in (next_field inner)
 head_is_next room l inner w rest h behind o e f x = case_head w h behind (next_field inner) (head_case room l inner w rest (next_field inner) (one_of room l inner w rest x) o) e f
 
-pub end_is_next : (room : ℕ) (l : Level) (inner : Remaining) (w rest : List ℕ) (h : ReadHead) (behind : List ℕ) → is_over l w ≡ false → head_front w ≡ Some (h, behind) → is_end h.kind ≡ true → LevelLeft room l inner w rest → None ≡ head_in (next_field inner)
+pub end_is_next : (room : ℕ) (l : Level) (inner : Remaining) (w rest : List ℕ) (h : ReadHead) (behind : List ℕ) → is_over l w ≡ false → head_prefix w ≡ Some (h, behind) → is_end h.kind ≡ true → LevelLeft room l inner w rest → None ≡ head_in (next_field inner)
 end_is_next room l inner w rest h behind o e f x = case_none w h behind (next_field inner) (head_case room l inner w rest (next_field inner) (one_of room l inner w rest x) o) e f
 
 -- ---- one turn: the next field of the innermost level
@@ -196,7 +160,7 @@ pub record Turn (room : ℕ) (l : Level) (levels : List Level) (left : List Rema
   pub type : h.kind ≡ type_of_value v
   pub behind : List ℕ
   pub mid : List ℕ
-  pub front : head_front w ≡ Some (h, behind)
+  pub prefix : head_prefix w ≡ Some (h, behind)
   pub contents : Contents room h.kind v behind mid
   pub after : Left room (less l ∷ levels) (skipped left) mid
   pub more : HasMore l
@@ -210,7 +174,7 @@ turn_of room l levels inner outer w rest (Some next) h n x y e =
     let s = same e in
     let made_head : ReadHead = record { tag = next.0; kind = type_of_value next.1 } in
     subst (λ (k : ReadHead). Turn room l levels (inner ∷ outer) w k) s
-    (record { v = next.1; next = n; type = refl; behind = x.behind; mid = x.mid; front = head_front_is x.head; contents = x.contents; after = (rest, x.after, y); more = x.more })
+    (record { v = next.1; next = n; type = refl; behind = x.behind; mid = x.mid; prefix = head_prefix_is x.head; contents = x.contents; after = (rest, x.after, y); more = x.more })
   where
     same : head_in (Some next) ≡ Some h → (let k : ReadHead = record { tag = next.0; kind = type_of_value next.1 } in k) ≡ h
     same e = ap (λ o. got o) e

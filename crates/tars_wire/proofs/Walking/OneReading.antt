@@ -1,4 +1,4 @@
--- Walking over what is left: a level has one reading, and its next field stands at the front of the bytes.
+-- Walking over what is left: a level has one reading, and its next field begins the bytes.
 use Rattle.std.proofs.Common.{◌≡◌, ℕ, ◌+◌, List, [], ◌∷◌, refl, sym, ap, ◌∙◌, subst, arith}
 use Rattle.wire_words.specs.Tree.{WireFields}
 use Rattle.tars_wire.specs.declared.wire_type.WireType.TheVariants as wire

@@ -1,6 +1,6 @@
 -- What a call of the cursor needs of the next field, and what it leaves.
 use Rattle.std.proofs.Common.{◌≡◌, ◌<◌, ℕ, Bool, true, IsTrue, IsSome, IsOk, ℤ, List, ◌∷◌, Option, Some, None, Result, Ok, refl, sym, ap, ◌∙◌, subst}
-use Rattle.wire_words.specs.Tree.{WireNumber, zero_tag, int1, int2, int4, int8, WireValue, whole, float, double, string1, string4, simple_list, list, map, struct}
+use Rattle.wire_words.specs.Tree.{WireValue, whole, float, double, string1, string4, simple_list, list, map, struct}
 use Rattle.tars_wire.specs.declared.wire_type.WireType.{WireType}
 use Rattle.tars_wire.specs.declared.head.Head.{Head as ReadHead}
 use Rattle.tars_wire.specs.declared.level.Level.{Level}
@@ -8,11 +8,12 @@ use Rattle.tars_wire.specs.declared.stop.Stop.{Stop}
 use Rattle.tars_wire.specs.Heads.{opens}
 use Rattle.tars_wire.specs.Spelled.{ALL, Contents, is_whole, is_float, is_double, is_string1, is_string4, is_simple_list, is_list, is_map, is_struct}
 use Rattle.tars_wire.specs.ScanSteps.{contents_at}
-use Rattle.tars_wire.specs.Left.{Remaining, type_of_number, type_of_value, value_of_number, number_in, text_in, simple_in, is_number_type, is_text_type, is_simple_type, next_of, head_left, skipped, of_next, Left, Standing, IsLeft}
-use Rattle.tars_wire.specs.PrefixSteps.{simple_front, text_front, head_front, number_front, less}
+use Rattle.tars_wire.specs.Left.{Remaining, type_of_value, value_of_number, number_in, text_in, simple_in, is_number_type, is_text_type, is_simple_type, next_of, head_left, skipped, of_next, Left}
+use Rattle.tars_wire.specs.PrefixSteps.{simple_prefix, text_prefix, head_prefix, number_prefix, less}
 use Rattle.tars_wire.proofs.Machine.Forms.{room_left}
-use Rattle.tars_wire.proofs.Walking.Prefixes.{simple_front_is, text_front_is, number_front_is, contents_complete}
+use Rattle.tars_wire.proofs.Walking.Prefixes.{simple_prefix_is, text_prefix_is, number_prefix_is, contents_complete}
 use Rattle.tars_wire.proofs.Walking.OneReading.{left_same}
+use Rattle.tars_wire.proofs.Grammar.Types.{of_no_number}
 use Rattle.tars_wire.proofs.Walking.OneField.{Turn, turn}
 use Rattle.tars_wire.proofs.TestLemmas.{false_true, room_for}
 
@@ -31,17 +32,10 @@ number_of_type (list vs) e = absurd (false_true e)
 number_of_type (map ps) e = absurd (false_true e)
 number_of_type (struct fs) e = absurd (false_true e)
 
-no_text_number : (n : WireNumber) → is_text_type (type_of_number n) ≡ true → ⊥
-no_text_number zero_tag e = false_true e
-no_text_number (int1 n) e = false_true e
-no_text_number (int2 n) e = false_true e
-no_text_number (int4 n) e = false_true e
-no_text_number (int8 n) e = false_true e
-
 pub text_of_type : (v : WireValue) → is_text_type (type_of_value v) ≡ true → (text : List ℕ) × (text_in v ≡ Some text)
 text_of_type (string1 b) e = (b, refl)
 text_of_type (string4 b) e = (b, refl)
-text_of_type (whole n) e = absurd (no_text_number n e)
+text_of_type (whole n) e = absurd (false_true (sym (of_no_number is_text_type (refl, refl, refl, refl, refl) n) ∙ e))
 text_of_type (float b) e = absurd (false_true e)
 text_of_type (double b) e = absurd (false_true e)
 text_of_type (simple_list b) e = absurd (false_true e)
@@ -49,16 +43,9 @@ text_of_type (list vs) e = absurd (false_true e)
 text_of_type (map ps) e = absurd (false_true e)
 text_of_type (struct fs) e = absurd (false_true e)
 
-no_simple_number : (n : WireNumber) → is_simple_type (type_of_number n) ≡ true → ⊥
-no_simple_number zero_tag e = false_true e
-no_simple_number (int1 n) e = false_true e
-no_simple_number (int2 n) e = false_true e
-no_simple_number (int4 n) e = false_true e
-no_simple_number (int8 n) e = false_true e
-
 pub simple_of_type : (v : WireValue) → is_simple_type (type_of_value v) ≡ true → (text : List ℕ) × (simple_in v ≡ Some text)
 simple_of_type (simple_list b) e = (b, refl)
-simple_of_type (whole n) e = absurd (no_simple_number n e)
+simple_of_type (whole n) e = absurd (false_true (sym (of_no_number is_simple_type (refl, refl, refl, refl, refl) n) ∙ e))
 simple_of_type (float b) e = absurd (false_true e)
 simple_of_type (double b) e = absurd (false_true e)
 simple_of_type (string1 b) e = absurd (false_true e)
@@ -67,8 +54,8 @@ simple_of_type (list vs) e = absurd (false_true e)
 simple_of_type (map ps) e = absurd (false_true e)
 simple_of_type (struct fs) e = absurd (false_true e)
 
-pub number_law : (room : ℕ) (type : WireType) (v : WireValue) (w rest : List ℕ) (n : ℤ) → Contents room type v w rest → number_in v ≡ Some n → number_front type w ≡ Some (n, rest)
-number_law room type v w rest n (is_whole {number = number} spelled) e = number_front_is spelled ∙ ap (λ (o : Option ℤ). paired o) e
+pub number_law : (room : ℕ) (type : WireType) (v : WireValue) (w rest : List ℕ) (n : ℤ) → Contents room type v w rest → number_in v ≡ Some n → number_prefix type w ≡ Some (n, rest)
+number_law room type v w rest n (is_whole {number = number} spelled) e = number_prefix_is spelled ∙ ap (λ (o : Option ℤ). paired o) e
   where
     paired : Option ℤ → Option (ℤ × List ℕ)
     paired None = None
@@ -97,66 +84,71 @@ found_second {A} a b x y e = ap got e
     got None = x
     got (Some h) = h.1
 
--- A call that reads a value of some sort: `front` reads it, and `inside` is what it is in the tree.
-module _ {A : Type 0} (front : WireType → List ℕ → Option (A × List ℕ)) (inside : WireValue → Option A) (sort : WireType → Bool)
-    (has : (v : WireValue) → sort (type_of_value v) ≡ true → (x : A) × (inside v ≡ Some x))
-    (law : (room : ℕ) (type : WireType) (v : WireValue) (w rest : List ℕ) (x : A) → Contents room type v w rest → inside v ≡ Some x → front type w ≡ Some (x, rest))
-    (room : ℕ) (l : Level) (levels : List Level) (left : List Remaining) (w : List ℕ) (h : ReadHead)
-    (spelled : Left room (l ∷ levels) left w) (is_next : head_left left ≡ Some h) (is_sort : sort h.kind ≡ true)
-    (read : ReadHead) (behind : List ℕ) (is_read : head_front w ≡ Some (read, behind)) where
+-- A sort of values, as one call reads them: `prefix` reads one, and `inside` is what it is in the tree.
+pub record Reading (A : Type 0) : Type 0 where
+  pub prefix : WireType → List ℕ → Option (A × List ℕ)
+  pub inside : WireValue → Option A
+  pub sort : WireType → Bool
+  pub has : (v : WireValue) → sort (type_of_value v) ≡ true → (x : A) × (inside v ≡ Some x)
+  pub law : (room : ℕ) (type : WireType) (v : WireValue) (w rest : List ℕ) (x : A) → Contents room type v w rest → inside v ≡ Some x → prefix type w ≡ Some (x, rest)
+
+-- a call that reads a value
+module _ {A : Type 0} (r : Reading A) (room : ℕ) (l : Level) (levels : List Level) (left : List Remaining) (w : List ℕ) (h : ReadHead)
+    (spelled : Left room (l ∷ levels) left w) (is_next : head_left left ≡ Some h) (is_sort : r.sort h.kind ≡ true)
+    (read : ReadHead) (behind : List ℕ) (is_read : head_prefix w ≡ Some (read, behind)) where
   the_turn : Turn room l levels left w h
   the_turn = turn room l levels left w h spelled is_next
 
   same_head : read ≡ h
-  same_head = found_first read h behind the_turn.behind (sym is_read ∙ the_turn.front)
+  same_head = found_first read h behind the_turn.behind (sym is_read ∙ the_turn.prefix)
 
   same_rest : behind ≡ the_turn.behind
-  same_rest = found_second read h behind the_turn.behind (sym is_read ∙ the_turn.front)
+  same_rest = found_second read h behind the_turn.behind (sym is_read ∙ the_turn.prefix)
 
-  the_value : (x : A) × (inside the_turn.v ≡ Some x)
-  the_value = has the_turn.v (sym (ap sort the_turn.type) ∙ is_sort)
+  the_value : (x : A) × (r.inside the_turn.v ≡ Some x)
+  the_value = r.has the_turn.v (sym (ap r.sort the_turn.type) ∙ is_sort)
 
-  the_front : front read.kind behind ≡ Some (the_value.0, the_turn.mid)
-  the_front =
-      ap (λ (k : ReadHead). front k.kind behind) same_head
-      ∙ (ap (front h.kind) same_rest ∙ law room h.kind the_turn.v the_turn.behind the_turn.mid the_value.0 the_turn.contents the_value.1)
+  the_prefix : r.prefix read.kind behind ≡ Some (the_value.0, the_turn.mid)
+  the_prefix =
+      ap (λ (k : ReadHead). r.prefix k.kind behind) same_head
+      ∙ (ap (r.prefix h.kind) same_rest ∙ r.law room h.kind the_turn.v the_turn.behind the_turn.mid the_value.0 the_turn.contents the_value.1)
 
-  pub needs : IsSome (front read.kind behind)
-  needs = rw the_front refl
+  pub needs : IsSome (r.prefix read.kind behind)
+  needs = rw the_prefix refl
 
-  module _ (x : A) (rest : List ℕ) (got : front read.kind behind ≡ Some (x, rest)) where
+  module _ (x : A) (rest : List ℕ) (got : r.prefix read.kind behind ≡ Some (x, rest)) where
     same_x : the_value.0 ≡ x
-    same_x = found_first the_value.0 x the_turn.mid rest (sym the_front ∙ got)
+    same_x = found_first the_value.0 x the_turn.mid rest (sym the_prefix ∙ got)
 
     moved : Left room (less l ∷ levels) (skipped left) rest
-    moved = subst (λ (r : List ℕ). Left room (less l ∷ levels) (skipped left) r) (found_second the_value.0 x the_turn.mid rest (sym the_front ∙ got)) the_turn.after
+    moved = subst (λ (r : List ℕ). Left room (less l ∷ levels) (skipped left) r) (found_second the_value.0 x the_turn.mid rest (sym the_prefix ∙ got)) the_turn.after
 
     pub leaves : (other : List Remaining) → Left room (l ∷ levels) other w → Left room (less l ∷ levels) (skipped other) rest
     leaves other y = subst (λ (o : List Remaining). Left room (less l ∷ levels) (skipped o) rest) (left_same room (l ∷ levels) left other w spelled y) moved
 
-    value_here : of_next inside (next_of left) ≡ Some x
-    value_here = ap (of_next inside) the_turn.next ∙ (the_value.1 ∙ ap (λ (k : A). Some k) same_x)
+    value_here : of_next r.inside (next_of left) ≡ Some x
+    value_here = ap (of_next r.inside) the_turn.next ∙ (the_value.1 ∙ ap (λ (k : A). Some k) same_x)
 
-    pub tells : (other : List Remaining) → Left room (l ∷ levels) other w → of_next inside (next_of other) ≡ Some x
-    tells other y = subst (λ (o : List Remaining). of_next inside (next_of o) ≡ Some x) (left_same room (l ∷ levels) left other w spelled y) value_here
+    pub tells : (other : List Remaining) → Left room (l ∷ levels) other w → of_next r.inside (next_of other) ≡ Some x
+    tells other y = subst (λ (o : List Remaining). of_next r.inside (next_of o) ≡ Some x) (left_same room (l ∷ levels) left other w spelled y) value_here
 
 -- and one that goes past whatever value
 module _ (room : ℕ) (l : Level) (levels : List Level) (left : List Remaining) (w : List ℕ) (h : ReadHead)
     (spelled : Left room (l ∷ levels) left w) (is_next : head_left left ≡ Some h)
-    (read : ReadHead) (behind : List ℕ) (is_read : head_front w ≡ Some (read, behind)) where
+    (read : ReadHead) (behind : List ℕ) (is_read : head_prefix w ≡ Some (read, behind)) where
   a_turn : Turn room l levels left w h
   a_turn = turn room l levels left w h spelled is_next
 
   passed : contents_at room read.kind behind ≡ Ok a_turn.mid
   passed =
-      ap (λ (k : ReadHead). contents_at room k.kind behind) (found_first read h behind a_turn.behind (sym is_read ∙ a_turn.front))
-      ∙ (ap (contents_at room h.kind) (found_second read h behind a_turn.behind (sym is_read ∙ a_turn.front)) ∙ contents_complete a_turn.contents)
+      ap (λ (k : ReadHead). contents_at room k.kind behind) (found_first read h behind a_turn.behind (sym is_read ∙ a_turn.prefix))
+      ∙ (ap (contents_at room h.kind) (found_second read h behind a_turn.behind (sym is_read ∙ a_turn.prefix)) ∙ contents_complete a_turn.contents)
 
   pub can_pass : IsOk (contents_at room read.kind behind)
   can_pass = rw passed refl
 
   pub has_room : IsTrue (opens read.kind) → 0 < room
-  has_room t = room_for (opens h.kind) room (room_left ALL a_turn.contents) (sym (ap (λ (k : ReadHead). opens k.kind) (found_first read h behind a_turn.behind (sym is_read ∙ a_turn.front))) ∙ t)
+  has_room t = room_for (opens h.kind) room (room_left ALL a_turn.contents) (sym (ap (λ (k : ReadHead). opens k.kind) (found_first read h behind a_turn.behind (sym is_read ∙ a_turn.prefix))) ∙ t)
 
   module _ (rest : List ℕ) (got : contents_at room read.kind behind ≡ Ok rest) where
     mid_is : a_turn.mid ≡ rest
@@ -170,15 +162,21 @@ module _ (room : ℕ) (l : Level) (levels : List Level) (left : List Remaining) 
         subst (λ (o : List Remaining). Left room (less l ∷ levels) (skipped o) rest) (left_same room (l ∷ levels) left other w spelled y)
         (subst (λ (r : List ℕ). Left room (less l ∷ levels) (skipped left) r) mid_is a_turn.after)
 
-pub head_needs : (room : ℕ) (l : Level) (levels : List Level) (left : List Remaining) (w : List ℕ) (h : ReadHead) → Left room (l ∷ levels) left w → head_left left ≡ Some h → IsSome (head_front w)
-head_needs room l levels left w h x e = let t = turn room l levels left w h x e in rw t.front refl
+pub head_needs : (room : ℕ) (l : Level) (levels : List Level) (left : List Remaining) (w : List ℕ) (h : ReadHead) → Left room (l ∷ levels) left w → head_left left ≡ Some h → IsSome (head_prefix w)
+head_needs room l levels left w h x e = let t = turn room l levels left w h x e in rw t.prefix refl
 
-pub simple_law : (room : ℕ) (type : WireType) (v : WireValue) (w rest : List ℕ) (bytes : List ℕ) → Contents room type v w rest → simple_in v ≡ Some bytes → simple_front w ≡ Some (bytes, rest)
-simple_law room type v w rest bytes spelled e = simple_front_is bytes spelled e
+pub simple_law : (room : ℕ) (type : WireType) (v : WireValue) (w rest : List ℕ) (bytes : List ℕ) → Contents room type v w rest → simple_in v ≡ Some bytes → simple_prefix w ≡ Some (bytes, rest)
+simple_law room type v w rest bytes spelled e = simple_prefix_is bytes spelled e
 
-pub text_law : (room : ℕ) (type : WireType) (v : WireValue) (w rest : List ℕ) (text : List ℕ) → Contents room type v w rest → text_in v ≡ Some text → text_front type w ≡ Some (text, rest)
-text_law room type v w rest text spelled e = text_front_is text spelled e
+pub text_law : (room : ℕ) (type : WireType) (v : WireValue) (w rest : List ℕ) (text : List ℕ) → Contents room type v w rest → text_in v ≡ Some text → text_prefix type w ≡ Some (text, rest)
+text_law room type v w rest text spelled e = text_prefix_is text spelled e
 
--- what clauses see of a cursor, and its fields
-pub seen : (a b : Standing) (left : List Remaining) → a ≡ b → IsLeft b left → IsLeft a left
-seen a b left e x = subst (λ (s : Standing). IsLeft s left) (sym e) x
+-- the sorts that calls read
+abbrev pub numbers : Reading ℤ
+numbers = record { prefix = number_prefix; inside = number_in; sort = is_number_type; has = number_of_type; law = number_law }
+
+abbrev pub texts : Reading (List ℕ)
+texts = record { prefix = text_prefix; inside = text_in; sort = is_text_type; has = text_of_type; law = text_law }
+
+abbrev pub simple_lists : Reading (List ℕ)
+simple_lists = record { prefix = λ type w. simple_prefix w; inside = simple_in; sort = is_simple_type; has = simple_of_type; law = simple_law }

@@ -3,7 +3,7 @@
 ghost use Rattle.std.specs.Prelude.{◌≡◌, ◌<◌, ◌^◌, IsTrue, IsSome, IsOk, length};
 ghost use Rattle.tars_wire.specs.Heads.{opens};
 ghost use Rattle.tars_wire.specs.ScanSteps.{contents_at};
-ghost use Rattle.tars_wire.specs.PrefixSteps.{head_front, bytes_front, number_front, size_front, text_front, simple_front, entered_front};
+ghost use Rattle.tars_wire.specs.PrefixSteps.{head_prefix, bytes_prefix, number_prefix, size_prefix, text_prefix, simple_prefix, entered_prefix};
 
 use crate::head::Head;
 use crate::level::Level;
@@ -13,8 +13,8 @@ use crate::wire_type::WireType;
 
 /// A head in either form.
 pub fn known_head(bytes: &[u8]) -> (Head, &[u8])
-    requires { IsSome (head_front bytes.now) }
-    ensures { head_front bytes.now ≡ Some (result.0, result.1.now) }
+    requires { IsSome (head_prefix bytes.now) }
+    ensures { head_prefix bytes.now ≡ Some (result.0, result.1.now) }
 {
     match split_head(bytes) {
         Some(found) => found,
@@ -24,8 +24,8 @@ pub fn known_head(bytes: &[u8]) -> (Head, &[u8])
 
 /// A whole number of a type.
 pub fn known_number(kind: WireType, bytes: &[u8]) -> (i64, &[u8])
-    requires { IsSome (number_front kind bytes.now) }
-    ensures { number_front kind bytes.now ≡ Some (result.0, result.1.now) }
+    requires { IsSome (number_prefix kind bytes.now) }
+    ensures { number_prefix kind bytes.now ≡ Some (result.0, result.1.now) }
 {
     match split_number(kind, bytes) {
         Some(found) => found,
@@ -35,8 +35,8 @@ pub fn known_number(kind: WireType, bytes: &[u8]) -> (i64, &[u8])
 
 /// So many bytes, and those after them.
 fn known_bytes(count: usize, bytes: &[u8]) -> (&[u8], &[u8])
-    requires { IsSome (bytes_front count bytes.now) }
-    ensures { bytes_front count bytes.now ≡ Some (result.0.now, result.1.now) }
+    requires { IsSome (bytes_prefix count bytes.now) }
+    ensures { bytes_prefix count bytes.now ≡ Some (result.0.now, result.1.now) }
 {
     match split_bytes(count, bytes) {
         Some(found) => found,
@@ -45,10 +45,10 @@ fn known_bytes(count: usize, bytes: &[u8]) -> (&[u8], &[u8])
 }
 
 /// A size: how many bytes, values or pairs follow.
-#[tactic(auto, unfolding(crate::specs::PrefixSteps::size_front))]
+#[tactic(auto, unfolding(crate::specs::PrefixSteps::size_prefix))]
 fn known_size(bytes: &[u8]) -> (u32, &[u8])
-    requires { IsSome (size_front bytes.now) }
-    ensures is { size_front bytes.now ≡ Some (result.0, result.1.now) }
+    requires { IsSome (size_prefix bytes.now) }
+    ensures is { size_prefix bytes.now ≡ Some (result.0, result.1.now) }
     ensures below { result.0 < 2 ^ 31 }
 {
     let (head, rest) = known_head(bytes);
@@ -57,10 +57,10 @@ fn known_size(bytes: &[u8]) -> (u32, &[u8])
 }
 
 /// The bytes of a string.
-#[tactic(auto, unfolding(crate::specs::PrefixSteps::text_front))]
+#[tactic(auto, unfolding(crate::specs::PrefixSteps::text_prefix))]
 pub fn known_text(kind: WireType, bytes: &[u8]) -> (&[u8], &[u8])
-    requires { IsSome (text_front kind bytes.now) }
-    ensures { text_front kind bytes.now ≡ Some (result.0.now, result.1.now) }
+    requires { IsSome (text_prefix kind bytes.now) }
+    ensures { text_prefix kind bytes.now ≡ Some (result.0.now, result.1.now) }
 {
     match kind {
         WireType::String1 => match split_u8(bytes) {
@@ -76,10 +76,10 @@ pub fn known_text(kind: WireType, bytes: &[u8]) -> (&[u8], &[u8])
 }
 
 /// The bytes of a simple list.
-#[tactic(auto, unfolding(crate::specs::PrefixSteps::simple_front))]
+#[tactic(auto, unfolding(crate::specs::PrefixSteps::simple_prefix))]
 pub fn known_simple(bytes: &[u8]) -> (&[u8], &[u8])
-    requires { IsSome (simple_front bytes.now) }
-    ensures { simple_front bytes.now ≡ Some (result.0.now, result.1.now) }
+    requires { IsSome (simple_prefix bytes.now) }
+    ensures { simple_prefix bytes.now ≡ Some (result.0.now, result.1.now) }
 {
     let (_, rest) = known_head(bytes);
     let (size, rest) = known_size(rest);
@@ -87,10 +87,10 @@ pub fn known_simple(bytes: &[u8]) -> (&[u8], &[u8])
 }
 
 /// What is open after the head of a list, a map or a struct, and how many values or pairs it has.
-#[tactic(auto, unfolding(crate::specs::PrefixSteps::entered_front))]
+#[tactic(auto, unfolding(crate::specs::PrefixSteps::entered_prefix))]
 pub fn enter_level(kind: WireType, bytes: &[u8]) -> (Level, u32, &[u8])
-    requires { IsSome (entered_front kind bytes.now) }
-    ensures { entered_front kind bytes.now ≡ Some (result.0, result.1, result.2.now) }
+    requires { IsSome (entered_prefix kind bytes.now) }
+    ensures { entered_prefix kind bytes.now ≡ Some (result.0, result.1, result.2.now) }
 {
     if kind == WireType::StructBegin {
         return (Level::Struct, 0, bytes);

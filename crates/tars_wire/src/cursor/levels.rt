@@ -27,8 +27,8 @@ pub fn past_level(room: u8, level: Level, bytes: &[u8]) -> &[u8]
     let mut here = level;
     let mut rest = bytes;
     while next_head(here, rest).is_some() {
-        let (head, behind) = known_head(rest);
-        rest = past_value(room, head.kind, behind);
+        let (head, after) = known_head(rest);
+        rest = past_value(room, head.kind, after);
         here = here.less();
     }
     match here {

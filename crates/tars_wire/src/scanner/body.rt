@@ -17,8 +17,8 @@ fn past_body(bytes: &[u8]) -> Result<(), Stop>
     let mut rest = bytes;
     let mut from = 0;
     while !rest.is_empty() {
-        let (head, behind) = read_head(HeadContext::Body { from }, rest)?;
-        rest = past_contents(MAX_OPEN, head.kind, behind)?;
+        let (head, after) = read_head(HeadContext::Body { from }, rest)?;
+        rest = past_contents(MAX_OPEN, head.kind, after)?;
         from = u16::from(head.tag) + 1;
     }
     Ok(())

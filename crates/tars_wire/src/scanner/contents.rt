@@ -122,11 +122,11 @@ fn past_fields(room: u8, bytes: &[u8]) -> Result<&[u8], Stop>
     let mut rest = bytes;
     let mut from = 0;
     loop {
-        let (head, behind) = read_head(HeadContext::Struct { from, room }, rest)?;
+        let (head, after) = read_head(HeadContext::Struct { from, room }, rest)?;
         if head.kind.is_end() {
-            return Ok(behind);
+            return Ok(after);
         }
-        rest = past_contents(room, head.kind, behind)?;
+        rest = past_contents(room, head.kind, after)?;
         from = u16::from(head.tag) + 1;
     }
 }

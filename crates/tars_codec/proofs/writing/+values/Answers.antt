@@ -46,12 +46,12 @@ put_value-returns-in-Num t c =
 
 pub put_value-returns-in-Text : goal.put_value-returns-in-Text
 put_value-returns-in-Text t c =
-    rw (text_spelled c.args.value.now c.in-Text.text c.args.tag c.in-Text.is, ← c.as_slice.ensures) c.put_text.ensures
+    rw (text_spelled c.args.value.now c.in-Text.text c.args.tag c.in-Text.is, ← c.deref.ensures) c.put_text.ensures
 
 pub put_value-returns-in-Blob : goal.put_value-returns-in-Blob
 put_value-returns-in-Blob t c =
-    rw (blob_spelled c.args.value.now c.in-Blob.bytes c.args.tag c.in-Blob.is, ← c.as_slice-in-Blob.ensures) c.put_blob.ensures
+    rw (blob_spelled c.args.value.now c.in-Blob.bytes c.args.tag c.in-Blob.is, ← c.deref-in-Blob.ensures) c.put_blob.ensures
 
 pub put_value-returns-in-Map : goal.put_value-returns-in-Map
 put_value-returns-in-Map t c =
-    rw (map_spelled c.args.value.now c.in-Map.pairs c.args.tag c.in-Map.is, ← c.as_slice-in-Map.ensures) c.put_map.ensures
+    rw (map_spelled c.args.value.now c.in-Map.pairs c.args.tag c.in-Map.is, ← c.as_slice.ensures) c.put_map.ensures

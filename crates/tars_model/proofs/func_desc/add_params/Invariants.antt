@@ -5,5 +5,5 @@ use Rattle.tars_model.proofs.func_desc.add_params.Given as goal
 -- the members so far and those of what is left
 abbrev pub invariant-loop-k : goal.invariant-loop-k
 invariant-loop-k l =
-    l.members ++ params_from (l.k + 1) l.out (drop l.k l.params)
-    ≡ l.initial.members ++ params_from 1 l.out l.params
+    l.members ++ params_from (l.k + 1) l.direction (drop l.k l.params)
+    ≡ l.initial.members ++ params_from 1 l.direction l.params

@@ -1,42 +1,18 @@
-use Rattle.std.proofs.Common.{◌-◌, ◌∷◌}
-use Rattle.tars_wire.specs.Heads.{MAX_DEPTH}
-use Rattle.tars_wire.specs.Left.{skipped, Left, levels_around, text_in, is_text_type}
-use Rattle.tars_wire.specs.PrefixSteps.{text_front}
-use Rattle.tars_wire.proofs.Walking.Turns.{head_needs, needs, leaves, tells, seen, text_of_type, text_law}
+use Rattle.tars_wire.proofs.Walking.Turns.{texts}
+use Rattle.tars_wire.proofs.Walking.Calls.{head_asked, value_needs, value_told, value_left, value_stands}
 use Rattle.tars_wire.proofs.cursor.Cursor.text.Goals as goal
 
 pub known_head-requires : goal.known_head-requires
-known_head-requires c =
-    let room = MAX_DEPTH - c.self.inside.depth in
-    let around = levels_around c.self.inside.outer c.self.inside.depth in
-    let spelled : Left room (c.self.inside.here ∷ around) c.requires.next.left c.self.inside.rest.now = seen _ _ c.requires.next.left c.self.view_is c.requires.next.is_left in
-    head_needs room c.self.inside.here around c.requires.next.left c.self.inside.rest.now c.requires.head spelled c.requires.next.is_next
+known_head-requires c = head_asked c.self.inside.rest.now c.self.inside.here c.self.inside.outer c.self.inside.depth c.self.view_is c.requires
 
 pub known_text-requires : goal.known_text-requires
-known_text-requires c =
-    let room = MAX_DEPTH - c.self.inside.depth in
-    let around = levels_around c.self.inside.outer c.self.inside.depth in
-    let spelled : Left room (c.self.inside.here ∷ around) c.requires.next.left c.self.inside.rest.now = seen _ _ c.requires.next.left c.self.view_is c.requires.next.is_left in
-    needs text_front text_in is_text_type text_of_type text_law room c.self.inside.here around c.requires.next.left c.self.inside.rest.now c.requires.head spelled c.requires.next.is_next c.requires.is_sort c.known_head.result.0 c.known_head.result.1.now c.known_head.ensures
+known_text-requires c = value_needs c.self.inside.rest.now c.self.inside.here c.self.inside.outer c.self.inside.depth c.self.view_is texts c.requires c.known_head.result.0 c.known_head.result.1.now c.known_head.ensures
 
 pub invariant_of-self : goal.invariant_of-self
-invariant_of-self c =
-    let room = MAX_DEPTH - c.self.inside.depth in
-    let around = levels_around c.self.inside.outer c.self.inside.depth in
-    let spelled : Left room (c.self.inside.here ∷ around) c.requires.next.left c.self.inside.rest.now = seen _ _ c.requires.next.left c.self.view_is c.requires.next.is_left in
-    let after : Left room (c.less-self-inside.result ∷ around) (skipped c.requires.next.left) c.known_text.result.1.now = rw c.less-self-inside.ensures (leaves text_front text_in is_text_type text_of_type text_law room c.self.inside.here around c.requires.next.left c.self.inside.rest.now c.requires.head spelled c.requires.next.is_next c.requires.is_sort c.known_head.result.0 c.known_head.result.1.now c.known_head.ensures c.known_text.result.0.now c.known_text.result.1.now c.known_text.ensures c.requires.next.left spelled) in
-    record { deep = c.self.invariant.deep; left = skipped c.requires.next.left; spelled = after }
+invariant_of-self c = value_stands c.self.inside.rest.now c.self.inside.here c.self.inside.outer c.self.inside.depth c.self.view_is texts c.requires c.known_head.result.0 c.known_head.result.1.now c.known_head.ensures c.known_text.result.0.now c.known_text.result.1.now c.known_text.ensures c.less-self-inside.result c.less-self-inside.ensures c.self.invariant.deep
 
 pub returns-clause-text : goal.returns-clause-text
-returns-clause-text c = λ other is_left.
-    let room = MAX_DEPTH - c.self.inside.depth in
-    let around = levels_around c.self.inside.outer c.self.inside.depth in
-    let spelled : Left room (c.self.inside.here ∷ around) c.requires.next.left c.self.inside.rest.now = seen _ _ c.requires.next.left c.self.view_is c.requires.next.is_left in
-    tells text_front text_in is_text_type text_of_type text_law room c.self.inside.here around c.requires.next.left c.self.inside.rest.now c.requires.head spelled c.requires.next.is_next c.requires.is_sort c.known_head.result.0 c.known_head.result.1.now c.known_head.ensures c.known_text.result.0.now c.known_text.result.1.now c.known_text.ensures other (seen _ _ other c.self.view_is is_left)
+returns-clause-text c = value_told c.self.inside.rest.now c.self.inside.here c.self.inside.outer c.self.inside.depth c.self.view_is texts c.requires c.known_head.result.0 c.known_head.result.1.now c.known_head.ensures c.known_text.result.0.now c.known_text.result.1.now c.known_text.ensures
 
 pub returns-clause-left : goal.returns-clause-left
-returns-clause-left c = λ other is_left.
-    let room = MAX_DEPTH - c.self.inside.depth in
-    let around = levels_around c.self.inside.outer c.self.inside.depth in
-    let spelled : Left room (c.self.inside.here ∷ around) c.requires.next.left c.self.inside.rest.now = seen _ _ c.requires.next.left c.self.view_is c.requires.next.is_left in
-    rw c.less-self-inside.ensures (leaves text_front text_in is_text_type text_of_type text_law room c.self.inside.here around c.requires.next.left c.self.inside.rest.now c.requires.head spelled c.requires.next.is_next c.requires.is_sort c.known_head.result.0 c.known_head.result.1.now c.known_head.ensures c.known_text.result.0.now c.known_text.result.1.now c.known_text.ensures other (seen _ _ other c.self.view_is is_left))
+returns-clause-left c = value_left c.self.inside.rest.now c.self.inside.here c.self.inside.outer c.self.inside.depth c.self.view_is texts c.requires c.known_head.result.0 c.known_head.result.1.now c.known_head.ensures c.known_text.result.0.now c.known_text.result.1.now c.known_text.ensures c.less-self-inside.result c.less-self-inside.ensures

@@ -1,13 +1,13 @@
 use Rattle.std.proofs.Common.{◌≡◌, ℕ, false, IsSome, is_some, List, sym, ap, ◌∙◌}
 use Rattle.tars_wire.specs.Left.{Remaining, next_field, behind_next, head_in, LevelLeft}
-use Rattle.tars_wire.proofs.Walking.Leaving.{next_front, next_passes, next_room, next_left, next_shorter, end_front, end_struct}
+use Rattle.tars_wire.proofs.Walking.Leaving.{next_prefix, next_passes, next_room, next_left, next_shorter, end_prefix, end_struct}
 use Rattle.tars_wire.proofs.cursor.levels.past_level.Goals as goal
 
 pub known_head-requires : goal.known_head-requires
 known_head-requires c =
     let at = c.loop-rest.invariant.stands in
     let some : IsSome (head_in (next_field at.inner)) = sym (ap is_some (c.next_head.ensures c.args.room at.inner at.rest at.is_left)) ∙ (sym c.is_some.ensures ∙ c.loop-rest-test.true) in
-    next_front c.args.room c.loop-rest.here at.inner c.loop-rest.rest.now at.rest at.is_left some
+    next_prefix c.args.room c.loop-rest.here at.inner c.loop-rest.rest.now at.rest at.is_left some
 
 pub past_value-rest-requires-clause-deep : goal.past_value-rest-requires-clause-deep
 past_value-rest-requires-clause-deep c =
@@ -42,7 +42,7 @@ pub known_head-requires-in-Struct : goal.known_head-requires-in-Struct
 known_head-requires-in-Struct c =
     let at = c.loop-rest.invariant.stands in
     let none : is_some (head_in (next_field at.inner)) ≡ false = sym (ap is_some (c.next_head.ensures c.args.room at.inner at.rest at.is_left)) ∙ (sym c.is_some.ensures ∙ c.loop-rest-test.false) in
-    end_front c.args.room c.loop-rest.here at.inner c.loop-rest.rest.now at.rest at.is_left none c.in-Struct.is
+    end_prefix c.args.room c.loop-rest.here at.inner c.loop-rest.rest.now at.rest at.is_left none c.in-Struct.is
 
 pub returns-in-Struct : goal.returns-in-Struct
 returns-in-Struct c = λ inner after x.

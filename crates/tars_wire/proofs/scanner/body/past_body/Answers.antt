@@ -17,18 +17,18 @@ pub returns-in_err-rest : goal.returns-in_err-rest
 returns-in_err-rest c =
     let p = err_from_is_err_and c.from_residual-in_err-rest.result c.from_residual-in_err-rest.ensures.1 in
     let some : 0 < length c.loop-rest.rest.now = grind arith in
-    rw (p.1, p.2) (body_contents_fail c.loop-rest.from c.loop-rest.rest.now (body_at 0 c.args.bytes.now) c.loop-rest.invariant c.in_ok-head.head c.in_ok-head.behind.now c.in_err-rest.field-0.0 some c.in_ok-head.ensures.read c.in_err-rest.ensures)
+    rw (p.1, p.2) (body_contents_fail c.loop-rest.from c.loop-rest.rest.now (body_at 0 c.args.bytes.now) c.loop-rest.invariant c.in_ok-head.head c.in_ok-head.after.now c.in_err-rest.field-0.0 some c.in_ok-head.ensures.read c.in_err-rest.ensures)
 
 pub loop-rest-smaller : goal.loop-rest-smaller
 loop-rest-smaller c =
-    let a = head_shorter (heads.Body c.loop-rest.from) c.loop-rest.rest.now c.in_ok-head.behind.now c.in_ok-head.head c.in_ok-head.ensures.read in
-    let b = contents_not_longer MAX_DEPTH c.in_ok-head.head.kind c.in_ok-head.behind.now c.in_ok-rest.rest.now c.in_ok-rest.ensures in
+    let a = head_shorter (heads.Body c.loop-rest.from) c.loop-rest.rest.now c.in_ok-head.after.now c.in_ok-head.head c.in_ok-head.ensures.read in
+    let b = contents_not_longer MAX_DEPTH c.in_ok-head.head.kind c.in_ok-head.after.now c.in_ok-rest.rest.now c.in_ok-rest.ensures in
     omega arith
 
 pub loop-rest-preserved : goal.loop-rest-preserved
 loop-rest-preserved c =
     let some : 0 < length c.loop-rest.rest.now = grind arith in
-    rw c.from-from.ensures (body_on c.loop-rest.from c.loop-rest.rest.now (body_at 0 c.args.bytes.now) c.loop-rest.invariant c.in_ok-head.head c.in_ok-head.behind.now c.in_ok-rest.rest.now some c.in_ok-head.ensures.read c.in_ok-rest.ensures)
+    rw c.from-from.ensures (body_on c.loop-rest.from c.loop-rest.rest.now (body_at 0 c.args.bytes.now) c.loop-rest.invariant c.in_ok-head.head c.in_ok-head.after.now c.in_ok-rest.rest.now some c.in_ok-head.ensures.read c.in_ok-rest.ensures)
 
 pub returns : goal.returns
 returns c = body_done c.loop-rest.from c.loop-rest.rest.now (body_at 0 c.args.bytes.now) c.loop-rest.invariant (grind arith)

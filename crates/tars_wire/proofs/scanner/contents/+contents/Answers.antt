@@ -17,28 +17,28 @@ past_fields-returns-in_err-head t c =
 pub past_fields-returns-then-is_end : goal.past_fields-returns-then-is_end
 past_fields-returns-then-is_end t c =
     let ends : is_end c.in_ok-head.head.kind ≡ true = cc in
-    struct_ends c.loop-head.from c.args.room c.loop-head.rest.now (fields_at 0 c.args.room c.args.bytes.now) c.loop-head.invariant c.in_ok-head.head c.in_ok-head.behind.now c.in_ok-head.ensures.read ends
+    struct_ends c.loop-head.from c.args.room c.loop-head.rest.now (fields_at 0 c.args.room c.args.bytes.now) c.loop-head.invariant c.in_ok-head.head c.in_ok-head.after.now c.in_ok-head.ensures.read ends
 
 pub past_fields-past_contents-requires : goal.past_fields-past_contents-requires
 past_fields-past_contents-requires t c =
-    (omega arith, struct_room c.loop-head.from c.args.room c.loop-head.rest.now c.in_ok-head.behind.now c.in_ok-head.head c.in_ok-head.ensures.read)
+    (omega arith, struct_room c.loop-head.from c.args.room c.loop-head.rest.now c.in_ok-head.after.now c.in_ok-head.head c.in_ok-head.ensures.read)
 
 pub past_fields-returns-in_err-rest : goal.past_fields-returns-in_err-rest
 past_fields-returns-in_err-rest t c =
     let ends : is_end c.in_ok-head.head.kind ≡ false = cc in
     let p = err_from_is_err_and c.from_residual-in_err-rest.result c.from_residual-in_err-rest.ensures.1 in
-    rw (p.1, p.2) (contents_fail c.loop-head.from c.args.room c.loop-head.rest.now (fields_at 0 c.args.room c.args.bytes.now) c.loop-head.invariant c.in_ok-head.head c.in_ok-head.behind.now c.in_err-rest.field-0.0 c.in_ok-head.ensures.read ends c.in_err-rest.ensures)
+    rw (p.1, p.2) (contents_fail c.loop-head.from c.args.room c.loop-head.rest.now (fields_at 0 c.args.room c.args.bytes.now) c.loop-head.invariant c.in_ok-head.head c.in_ok-head.after.now c.in_err-rest.field-0.0 c.in_ok-head.ensures.read ends c.in_err-rest.ensures)
 
 pub past_fields-loop-head-smaller : goal.past_fields-loop-head-smaller
 past_fields-loop-head-smaller t c =
-    let a = head_shorter (heads.Struct c.loop-head.from c.args.room) c.loop-head.rest.now c.in_ok-head.behind.now c.in_ok-head.head c.in_ok-head.ensures.read in
-    let b = contents_not_longer c.args.room c.in_ok-head.head.kind c.in_ok-head.behind.now c.in_ok-rest.rest.now c.in_ok-rest.ensures in
+    let a = head_shorter (heads.Struct c.loop-head.from c.args.room) c.loop-head.rest.now c.in_ok-head.after.now c.in_ok-head.head c.in_ok-head.ensures.read in
+    let b = contents_not_longer c.args.room c.in_ok-head.head.kind c.in_ok-head.after.now c.in_ok-rest.rest.now c.in_ok-rest.ensures in
     omega arith
 
 pub past_fields-loop-head-preserved : goal.past_fields-loop-head-preserved
 past_fields-loop-head-preserved t c =
     let ends : is_end c.in_ok-head.head.kind ≡ false = cc in
-    rw c.from-from.ensures (fields_on c.loop-head.from c.args.room c.loop-head.rest.now (fields_at 0 c.args.room c.args.bytes.now) c.loop-head.invariant c.in_ok-head.head c.in_ok-head.behind.now c.in_ok-rest.rest.now c.in_ok-head.ensures.read ends c.in_ok-rest.ensures)
+    rw c.from-from.ensures (fields_on c.loop-head.from c.args.room c.loop-head.rest.now (fields_at 0 c.args.room c.args.bytes.now) c.loop-head.invariant c.in_ok-head.head c.in_ok-head.after.now c.in_ok-rest.rest.now c.in_ok-head.ensures.read ends c.in_ok-rest.ensures)
 
 pub past_pairs-returns-in_err-rest : goal.past_pairs-returns-in_err-rest
 past_pairs-returns-in_err-rest t c =
