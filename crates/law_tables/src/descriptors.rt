@@ -3,7 +3,7 @@
 use std::alloc::{AllocError, Global};
 use std::str;
 use tars_model::{
-    Boxed, Direction, FuncDesc, InterfaceDesc, List, Member, Name, Param, Schema, Ty, args_of, reply_of,
+    Boxed, FuncDesc, InterfaceDesc, List, Member, Name, Param, Schema, Ty, args_of, reply_of,
 };
 
 /// The most parameters of a function.
@@ -16,26 +16,17 @@ fn map_type(alloc: Global) -> Result<Ty, AllocError> {
     Ok(Ty::Map(key, value))
 }
 
-fn param(alloc: Global, direction: Direction) -> Result<Param, AllocError> {
+fn param(alloc: Global, out: bool) -> Result<Param, AllocError> {
     let name = Name::from_slice(alloc, b"p")?;
     let ty = map_type(alloc)?;
-    Ok(Param {
-        name,
-        ty,
-        direction,
-    })
+    Ok(Param { name, ty, out })
 }
 
 /// So many parameters, by turns in and out.
 fn params(alloc: Global, count: u8) -> Result<List<Param>, AllocError> {
     let mut params = List::new(alloc);
     for index in 0..count {
-        let direction = if index % 2 == 1 {
-            Direction::Out
-        } else {
-            Direction::In
-        };
-        params.push(param(alloc, direction)?)?;
+        params.push(param(alloc, index % 2 == 1)?)?;
     }
     Ok(params)
 }

@@ -1,5 +1,5 @@
 -- The members that stand for a call's arguments and for its reply (docs/PROTOCOL.md, "Bodies").
-use Rattle.std.specs.Prelude.{ℕ, ◌+◌, Bool, true, false, if◌then◌else◌, pos, Option, Some, None, List, [], ◌∷◌, ◌++◌}
+use Rattle.std.specs.Prelude.{ℕ, ◌+◌, Bool, true, not, if◌then◌else◌, pos, Option, Some, None, List, [], ◌∷◌, ◌++◌}
 use Rattle.tars_model.specs.declared.func_desc.Direction.{Direction}
 use Rattle.tars_model.specs.declared.func_desc.Direction.TheVariants.{In, Out}
 use Rattle.tars_model.specs.declared.func_desc.FuncDesc.{FuncDesc}
@@ -16,17 +16,17 @@ MAX_PARAMS = 64
 abbrev pub required : ℕ → Ty → List ℕ → Member
 required tag ty name = record { tag = tag; require = true; ty = ty; name = name; default = Num (pos 0) }
 
+-- whether a parameter goes with the call, or comes back with the reply
+abbrev pub goes : Direction → Param → Bool
+goes In p = not p.out
+goes Out p = p.out
+
 -- the parameters of a direction, each under its number, from a first number on
 abbrev pub params_from : ℕ → Direction → List Param → List Member
 params_from tag direction [] = []
 params_from tag direction (p ∷ ps) =
-    if same p.direction direction then required tag p.ty p.name ∷ params_from (tag + 1) direction ps
+    if goes direction p then required tag p.ty p.name ∷ params_from (tag + 1) direction ps
     else params_from (tag + 1) direction ps
-  where
-    same : Direction → Direction → Bool
-    same In In = true
-    same Out Out = true
-    same _ _ = false
 
 abbrev pub arguments_of : FuncDesc → List Member
 arguments_of f = params_from 1 In f.params

@@ -1,14 +1,26 @@
 ghost use Rattle.std.specs.Prelude.{◌≡◌, ◌≤◌, ◌++◌, length, IfOk, OnOk};
-ghost use Rattle.tars_model.specs.Members.{MAX_PARAMS, required, params_from, arguments_of, reply_members_of};
+ghost use Rattle.tars_model.specs.Members.{MAX_PARAMS, required, goes, params_from, arguments_of, reply_members_of};
 
 use crate::{List, Member, Name, Ty, Value};
 use std::alloc::{AllocError, Global};
 
-/// Whether a parameter goes with the call, or comes back with the reply.
-#[derive(Clone, Copy, Debug, PartialEq, Eq)]
-pub enum Direction {
+/// Whether parameters go with the call, or come back with the reply.
+#[derive(Clone, Copy)]
+enum Direction {
     In,
     Out,
+}
+
+impl Direction {
+    /// Whether a parameter goes this way.
+    fn is_of(self, param: &Param) -> bool
+        ensures { result ≡ goes self param.now }
+    {
+        match self {
+            Direction::In => !param.out,
+            Direction::Out => param.out,
+        }
+    }
 }
 
 /// A parameter of a function.
@@ -16,7 +28,8 @@ pub enum Direction {
 pub struct Param {
     pub name: Name,
     pub ty: Ty,
-    pub direction: Direction,
+    /// Whether it comes back with the reply.
+    pub out: bool,
 }
 
 impl Param {
@@ -54,14 +67,14 @@ fn add_params(
     ensures { OnOk result (members.new ≡ members.old ++ params_from 1 direction params.now) }
 {
     for (k, param) in params.iter().enumerate() {
-        if param.direction == direction {
+        if direction.is_of(param) {
             members.push(param.member(alloc, k as u8 + 1)?)?;
         }
     }
     Ok(())
 }
 
-/// The members of a call's arguments: each `In` parameter, under its number from 1.
+/// The members of a call's arguments: each parameter that is not `out`, under its number from 1.
 pub fn args_of(alloc: Global, f: &FuncDesc) -> Result<List<Member>, AllocError>
     requires { length f.now.params ≤ MAX_PARAMS }
     ensures { IfOk result (λ members. members ≡ arguments_of f.now) }
@@ -71,7 +84,7 @@ pub fn args_of(alloc: Global, f: &FuncDesc) -> Result<List<Member>, AllocError>
     Ok(members)
 }
 
-/// The members of a call's reply: what is returned under 0, and each `Out` parameter under its number.
+/// The members of a call's reply: what is returned under 0, and each `out` parameter under its number.
 pub fn reply_of(alloc: Global, f: &FuncDesc) -> Result<List<Member>, AllocError>
     requires { length f.now.params ≤ MAX_PARAMS }
     ensures { IfOk result (λ members. members ≡ reply_members_of f.now) }

@@ -14,7 +14,7 @@ mod ty;
 mod value;
 
 pub use bytes8::Bytes8;
-pub use func_desc::{Direction, FuncDesc, Param, args_of, reply_of};
+pub use func_desc::{FuncDesc, Param, args_of, reply_of};
 pub use interface_desc::InterfaceDesc;
 pub use member::Member;
 pub use name::Name;
