@@ -1,7 +1,7 @@
 #!/usr/bin/env python3
 """Times `plan` on interface files of 64 KiB to 1 MiB, all of it declarations, and so `lex` and `parse`.
 
-The files are refused for their shape, behind both readers. Prints, for each length, the best of the runs in
+The files are refused for their shape, after both readers. Prints, for each length, the best of the runs in
 seconds, and its ratio to the length before. Needs the built program: run rt ci once before.
 """
 
@@ -17,7 +17,7 @@ object A.B.C@tcp -h 127.0.0.1 -p 9001 -t 3000
 servant add add a b
 """
 REFUSAL = b"refused big.tars check 11 0\n"
-FRONT = "module M {\n"
+START = "module M {\n"
 END = "};\n"
 
 
@@ -32,8 +32,8 @@ def declarations(number: int) -> str:
 
 
 def interface_of(length: int) -> str:
-    parts = [FRONT]
-    left = length - len(FRONT) - len(END)
+    parts = [START]
+    left = length - len(START) - len(END)
     number = 0
     while True:
         part = declarations(number)

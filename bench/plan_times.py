@@ -17,7 +17,7 @@ interface M::Calc
 object A.B.C@tcp -h 127.0.0.1 -p 9001 -t 3000
 servant add add a b
 """
-# What stands behind the first, the second, .. call, and so on again; from the half on, a close as well.
+# What stands after the first, the second, .. call, and so on again; from the half on, a close as well.
 AFTER = ["serve 1\n", "work 1\n", "serve 1\nwork 1\ndeliver 1\n", "deliver 1\n", ""]
 
 

@@ -55,7 +55,7 @@ header() {
     printf 'client calc.tars\ninterface M::Calc\nobject A.B.C@tcp -h %s -p 9001 -t 3000\nservant add add a b\n' "$1"
 }
 
-# A script of so many bytes: the header, and closes behind it. The host's name fills up the rest.
+# A script of so many bytes: the header, and closes after it. The host's name fills up the rest.
 long_script() {
     local host=h
     while [ $((($1 - $(header "$host" | wc -c)) % 6)) -ne 0 ]; do

@@ -18,6 +18,6 @@ found x = Some x
 pub some_is : {A : Type 0} (x y : A) → found x ≡ found y → x ≡ y
 some_is x y e = cc
 
--- the step behind one that found something
+-- the step after one that found something
 pub bind_is : {A B : Type 0} (r : Option A) (f : A → Option B) (x : A) → r ≡ Some x → (r >>= f) ≡ f x
 bind_is r f x e = ap (λ (o : Option _). o >>= f) e

@@ -1,7 +1,7 @@
 -- For the crates above. Each text has one list of tokens or one fault, and not both; so have tokens one tree or
 -- one fault; and which word is which keyword. The first two are the public laws `one_outcome` and `one_tree`.
-pub use Rattle.idl_parse.proofs.Lexing.TotalLaws.{some_outcome}
-pub use Rattle.idl_parse.proofs.Lexing.TextOutcomes.{one_tokens, not_both, one_lex_fault}
-pub use Rattle.idl_parse.proofs.Parsing.ParseSteps.{some_tree, one_file}
-pub use Rattle.idl_parse.proofs.Parsing.OneFault.{one_fault}
-pub use Rattle.idl_parse.proofs.Lexing.WordLaws.{keyword_means, keyword_found, keyword_is}
+pub use Rattle.idl_parse.proofs.Lexing.Lexemes.TotalLaws.{some_outcome}
+pub use Rattle.idl_parse.proofs.Lexing.Strings.TextOutcomes.{one_tokens, not_both, one_lex_fault}
+pub use Rattle.idl_parse.proofs.Parsing.Stopping.ParseSteps.{some_tree, one_file}
+pub use Rattle.idl_parse.proofs.Parsing.Stopping.OneFault.{one_fault}
+pub use Rattle.idl_parse.proofs.Lexing.Words.WordLaws.{keyword_means, keyword_found, keyword_is}

@@ -1,4 +1,4 @@
--- What the grammar says of a tree: its places, its nesting, its includes.
+-- What the grammar says of a tree: its spans, its nesting, its includes.
 pub mod FileWalks
 pub mod IncludeLaws
 pub mod NestingLaws

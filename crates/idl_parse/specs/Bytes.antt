@@ -15,7 +15,7 @@ is_quote b = b == 34
 abbrev pub is_backslash : ℕ → Bool
 is_backslash b = b == 92
 
--- a byte of an identifier behind its first letter: a letter, a digit or `_`
+-- a byte of an identifier after its first letter: a letter, a digit or `_`
 abbrev pub is_word_byte : ℕ → Bool
 is_word_byte b = is_ascii_alphanumeric b || b == 95
 

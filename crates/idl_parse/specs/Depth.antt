@@ -1,4 +1,4 @@
--- How many types a place stands inside. `<` and `>` stand in types alone, so these are as many as `<` are
+-- How many types an index of tokens stands inside. `<` and `>` stand in types alone, so these are as many as `<` are
 -- open there (docs/IDL.md, "Faults of the grammar").
 use Rattle.std.specs.Prelude.{ℕ, zero, suc, ◌<◌, List, [], ◌∷◌}
 use Rattle.idl_parse.specs.declared.kind.Kind.{Kind}
@@ -10,18 +10,18 @@ abbrev pub one_less : ℕ → ℕ
 one_less zero = zero
 one_less (suc n) = n
 
--- how many are open behind a token, where so many are before it
-abbrev pub behind : Kind → ℕ → ℕ
-behind (Sign Less) n = suc n
-behind (Sign Greater) n = one_less n
-behind _ n = n
+-- how many are open after a token, where so many are before it
+abbrev pub following : Kind → ℕ → ℕ
+following (Sign Less) n = suc n
+following (Sign Greater) n = one_less n
+following _ n = n
 
--- how many are open behind all tokens
+-- how many are open after all tokens
 abbrev pub opened : ℕ → List Token → ℕ
 opened n [] = n
-opened n (t ∷ ts) = opened (behind t.kind n) ts
+opened n (t ∷ ts) = opened (following t.kind n) ts
 
 -- before each token fewer are open than the limit
 abbrev pub Shallow : ℕ → ℕ → List Token → Type 0
 Shallow limit n [] = Unit {0}
-Shallow limit n (t ∷ ts) = (n < limit) × Shallow limit (behind t.kind n) ts
+Shallow limit n (t ∷ ts) = (n < limit) × Shallow limit (following t.kind n) ts

@@ -20,28 +20,28 @@ pub record IsFileText (text : List ℕ) (entries : List Entry) : Type 0 where
   pub are : Tokens text tokens
   pub derived : IsFile nesting_limit tokens entries
 
--- the text in quotes at this place spells these bytes
+-- the text in quotes at this span spells these bytes
 abbrev pub SpellsAt : List ℕ → Span → List ℕ → Type 0
-SpellsAt text place bytes = TextSpells bytes (slice_range text place.start place.end) []
+SpellsAt text span bytes = TextSpells bytes (slice_range text span.start span.end) []
 
 -- where the texts of the includes stand, in the order of the text
-abbrev pub include_places : List Entry → List Span
-include_places [] = []
-include_places (Include place ∷ entries) = place ∷ include_places entries
-include_places (Module m ∷ entries) = include_places entries
+abbrev pub include_spans : List Entry → List Span
+include_spans [] = []
+include_spans (Include span ∷ entries) = span ∷ include_spans entries
+include_spans (Module m ∷ entries) = include_spans entries
 
--- at each of these places these bytes are spelled
+-- at each of these spans these bytes are spelled
 abbrev pub AllSpell : List ℕ → List Span → List (List ℕ) → Type 0
 AllSpell text [] [] = Unit {0}
-AllSpell text (place ∷ places) (name ∷ names) = SpellsAt text place name × AllSpell text places names
+AllSpell text (span ∷ spans) (name ∷ names) = SpellsAt text span name × AllSpell text spans names
 AllSpell text _ _ = ⊥
 
 -- the include of this number, from 0, gives this name
 abbrev pub IsInclude : File → ℕ → List ℕ → Type 0
-IsInclude file k name = (place : Span) × (slice_get (include_places file.entries) k ≡ Some place) × SpellsAt file.text place name
+IsInclude file k name = (span : Span) × (slice_get (include_spans file.entries) k ≡ Some span) × SpellsAt file.text span name
 
 -- what holds of a file that is read
 pub record IsAst (text : List ℕ) (entries : List Entry) (includes : List (List ℕ)) : Type 0 where
   pub short : length text < 2 ^ 32
   pub file : IsFileText text entries
-  pub names : AllSpell text (include_places entries) includes
+  pub names : AllSpell text (include_spans entries) includes

@@ -8,7 +8,7 @@ use Rattle.idl_parse.specs.declared.kind.Kind.{Kind}
 use Rattle.idl_parse.specs.declared.kind.Kind.TheVariants as kind
 use Rattle.idl_parse.specs.Bytes.{begins, is_word_byte, is_letter_or_low}
 use Rattle.idl_parse.specs.Spellings.{keyword_text, sign_text}
-use Rattle.idl_parse.specs.Texts.{IsTextFront}
+use Rattle.idl_parse.specs.Texts.{IsTextPrefix}
 
 -- a letter, then letters, digits and `_`
 abbrev pub IsWord : List ℕ → Type 0
@@ -26,7 +26,7 @@ IsWhole body = AreDigits 10 body ⊎ ((digits : List ℕ) × (body ≡ codes "0x
 abbrev pub IsPointed : List ℕ → Type 0
 IsPointed body = (whole : List ℕ) × (part : List ℕ) × (body ≡ whole ++ (codes "." ++ part)) × AreDigits 10 whole × AreDigits 10 part
 
--- alone, or behind a minus
+-- alone, or after a minus
 abbrev pub MayBeMinus : (List ℕ → Type 0) → List ℕ → Type 0
 MayBeMinus Is word = Is word ⊎ ((body : List ℕ) × (word ≡ codes "-" ++ body) × Is body)
 
@@ -36,7 +36,7 @@ IsForm kind.Ident word = IsWord word × ((keyword : Keyword) → word ≢ keywor
 IsForm (kind.Keyword keyword) word = word ≡ keyword_text keyword
 IsForm kind.Number word = MayBeMinus IsWhole word
 IsForm kind.Fraction word = MayBeMinus IsPointed word
-IsForm kind.Text word = IsTextFront word []
+IsForm kind.Text word = IsTextPrefix word []
 IsForm kind.Include word = word ≡ codes "#include"
 IsForm (kind.Sign sign) word = word ≡ sign_text sign
 

@@ -37,15 +37,15 @@ Word word = One (kinds.Keyword word)
 abbrev pub Mark : sign.Sign → Rel Token
 Mark sign = One (kinds.Sign sign)
 
--- a token by its place
-abbrev pub Place : Kind → Rel Span
-Place kind = One kind ⟫ λ t. Gives (span t)
+-- the span of a token
+abbrev pub SpanOf : Kind → Rel Span
+SpanOf kind = One kind ⟫ λ t. Gives (span t)
 
 abbrev pub Ident : Rel Span
-Ident = Place kinds.Ident
+Ident = SpanOf kinds.Ident
 
 abbrev pub Number : Rel Span
-Number = Place kinds.Number
+Number = SpanOf kinds.Number
 
 -- ident [ "::" ident ]
 abbrev pub Scoped : Rel ScopedName
@@ -180,7 +180,7 @@ Module room =
 
 -- file = { "#include" text | module }
 abbrev pub EntryOf : ℕ → Rel Entry
-EntryOf room = Either (One kinds.Include ⟫ λ _. Place kinds.Text ⟫ λ place. Gives (entries.Include place)) (Module room)
+EntryOf room = Either (One kinds.Include ⟫ λ _. SpanOf kinds.Text ⟫ λ text. Gives (entries.Include text)) (Module room)
 
 -- The tokens are a file with these entries, in which at most so many types stand one inside the other.
 abbrev pub IsFile : ℕ → List Token → List Entry → Type 0

@@ -4,7 +4,7 @@ pub mod EscapeSteps
 pub mod Faults
 pub mod Files
 pub mod Forms
-pub mod Gaps
+pub mod Trivia
 pub mod Grammar
 pub mod KindSteps
 pub mod LexAnswers
@@ -12,11 +12,11 @@ pub mod LexSteps
 pub mod LexWhy
 pub mod ParseWhy
 pub mod Parsed
-pub mod Places
 pub mod ReadSteps
 pub mod Rules
 pub mod Spans
 pub mod Spellings
 pub mod Texts
 pub mod Tokens
+pub mod TreeSpans
 pub mod Words

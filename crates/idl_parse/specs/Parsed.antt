@@ -25,7 +25,7 @@ IsRead (Err (Bad at why)) entries = ⊥
 abbrev pub IsRefused : Result File ParseFault → ℕ → ParseWhy → Type 0
 IsRefused (Ok ast) at why = ⊥
 IsRefused (Err Memory) at why = Unit {0}
-IsRefused (Err (Bad place reason)) at why = (place ≡ at) × (reason ≡ why)
+IsRefused (Err (Bad offset reason)) at why = (offset ≡ at) × (reason ≡ why)
 
 -- a fault that is told is the one that the tokens have
 abbrev pub HasFault : ℕ → List ℕ → List Token → Result File ParseFault → Type 0

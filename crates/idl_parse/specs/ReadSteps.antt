@@ -86,8 +86,8 @@ one_at kind (t ∷ rest) = if same_kind t.kind kind then Ok (t, rest) else unexp
 abbrev pub mark_at : Sign → List Token → Read Token
 mark_at sign = one_at (kinds.Sign sign)
 
-unfoldable pub place_at : Kind → List Token → Read Span
-place_at kind tokens = do
+unfoldable pub span_at : Kind → List Token → Read Span
+span_at kind tokens = do
   t ← one_at kind tokens
   Ok (span t.0, t.1)
 
@@ -107,18 +107,18 @@ maybe_at kind f tokens =
 unfoldable pub second_at : List Token → Read Span
 second_at tokens = do
   sep ← mark_at PathSep tokens
-  place_at kinds.Ident sep.1
+  span_at kinds.Ident sep.1
 
 unfoldable pub scoped_at : List Token → Read ScopedName
 scoped_at tokens = do
-  first ← place_at kinds.Ident tokens
+  first ← span_at kinds.Ident tokens
   second ← maybe_at (kinds.Sign PathSep) second_at first.1
   Ok (scoped_name first.0 second.0, second.1)
 
 unfoldable pub array_at : List Token → Read ArrayLen
 array_at tokens = do
   bracket ← mark_at OpenBracket tokens
-  number ← place_at kinds.Number bracket.1
+  number ← span_at kinds.Number bracket.1
   close ← mark_at CloseBracket number.1
   Ok (record { at = bracket.0.start; length = number.0 }, close.1)
 
@@ -187,23 +187,23 @@ flat_at tokens =
     else (if begins kinds.Ident tokens then named_at tokens else basic_at tokens)
 
 -- a sign, and what f reads
-abbrev pub behind_at : {A : Type 0} → Sign → (List Token → Read A) → List Token → Read A
-behind_at sign f tokens = do
+abbrev pub after_at : {A : Type 0} → Sign → (List Token → Read A) → List Token → Read A
+after_at sign f tokens = do
   mark ← mark_at sign tokens
   f mark.1
 
 unfoldable pub vector_at : (List Token → Read TypeTree) → List Token → Read TypeTree
 vector_at inner tokens = do
   vector ← one_at (kinds.Keyword words.Vector) tokens
-  element ← behind_at Less inner vector.1
+  element ← after_at Less inner vector.1
   close ← mark_at Greater element.1
   Ok (types.Vector vector.0.start element.0, close.1)
 
 unfoldable pub map_at : (List Token → Read TypeTree) → List Token → Read TypeTree
 map_at inner tokens = do
   map ← one_at (kinds.Keyword words.Map) tokens
-  key ← behind_at Less inner map.1
-  value ← behind_at Comma inner key.1
+  key ← after_at Less inner map.1
+  value ← after_at Comma inner key.1
   close ← mark_at Greater value.1
   Ok (types.Map map.0.start key.0 value.0, close.1)
 
@@ -228,14 +228,14 @@ type_at (suc room) = type_with (type_at room)
 unfoldable pub typed_at : ℕ → List Token → Read TypedName
 typed_at room tokens = do
   ty ← type_at room tokens
-  name ← place_at kinds.Ident ty.1
+  name ← span_at kinds.Ident ty.1
   Ok (record { ty = ty.0; name = name.0 }, name.1)
 
 -- ---- lists. `fuel` is more than there are tokens.
 
--- a list behind what was read before
-abbrev pub with_front : {A : Type 0} → List A → Read (List A) → Read (List A)
-with_front front read = read >>= λ x. Ok (front ++ x.0, x.1)
+-- a list after what was read before
+abbrev pub with_prefix : {A : Type 0} → List A → Read (List A) → Read (List A)
+with_prefix prefix read = read >>= λ x. Ok (prefix ++ x.0, x.1)
 
 -- { P } sign
 abbrev pub until_in : {A : Type 0} → ℕ → Sign → (List Token → Read A) → List Token → Read (List A)
@@ -265,7 +265,7 @@ member_end_at tokens = do
 
 unfoldable pub member_at : ℕ → List Token → Read MemberTree
 member_at room tokens = do
-  tag ← place_at kinds.Number tokens
+  tag ← span_at kinds.Number tokens
   requirement ← means_at requirement_of tag.1
   typed ← typed_at room requirement.1
   end ← member_end_at typed.1
@@ -275,7 +275,7 @@ member_at room tokens = do
 unfoldable pub heading_at : Keyword → List Token → Read Span
 heading_at word tokens = do
   first ← one_at (kinds.Keyword word) tokens
-  name ← place_at kinds.Ident first.1
+  name ← span_at kinds.Ident first.1
   brace ← mark_at OpenBrace name.1
   Ok (name.0, brace.1)
 
@@ -292,15 +292,15 @@ struct_at room tokens = do
 unfoldable pub item_number_at : List Token → Read Span
 item_number_at tokens = do
   equals ← mark_at Equals tokens
-  place_at kinds.Number equals.1
+  span_at kinds.Number equals.1
 
 unfoldable pub item_at : List Token → Read EnumItem
 item_at tokens = do
-  name ← place_at kinds.Ident tokens
+  name ← span_at kinds.Ident tokens
   number ← maybe_at (kinds.Sign Equals) item_number_at name.1
   Ok (record { name = name.0; number = number.0 }, number.1)
 
--- an item with the "," behind it, which may be left out before the "}"
+-- an item with the "," after it, which may be left out before the "}"
 unfoldable pub item_comma_at : List Token → Read EnumItem
 item_comma_at tokens = do
   item ← item_at tokens
@@ -322,16 +322,16 @@ const_at room tokens = do
   value ← default_at typed.1
   Ok (decls.Const (record { typed = typed.0; value = value.0 }), value.1)
 
-unfoldable pub name_behind_at : List Token → Read Span
-name_behind_at tokens = behind_at Comma (place_at kinds.Ident) tokens
+unfoldable pub name_after_at : List Token → Read Span
+name_after_at tokens = after_at Comma (span_at kinds.Ident) tokens
 
 unfoldable pub names_at : List Token → Read (List Span)
-names_at tokens = until_at CloseBracket name_behind_at tokens
+names_at tokens = until_at CloseBracket name_after_at tokens
 
 unfoldable pub key_at : List Token → Read DeclTree
 key_at tokens = do
   word ← one_at (kinds.Keyword words.Key) tokens
-  struct_name ← behind_at OpenBracket (place_at kinds.Ident) word.1
+  struct_name ← after_at OpenBracket (span_at kinds.Ident) word.1
   members ← names_at struct_name.1
   Ok (decls.Key (record { struct_name = struct_name.0; members = members.0 }), members.1)
 
@@ -342,16 +342,16 @@ param_at room tokens = do
   typed ← typed_at room out.1
   Ok (record { routekey = start_of routekey.0; out = is_there out.0; typed = typed.0 }, typed.1)
 
-unfoldable pub param_behind_at : ℕ → List Token → Read ParamTree
-param_behind_at room tokens = behind_at Comma (param_at room) tokens
+unfoldable pub param_after_at : ℕ → List Token → Read ParamTree
+param_after_at room tokens = after_at Comma (param_at room) tokens
 
 unfoldable pub more_params_at : ℕ → List Token → Read (List ParamTree)
-more_params_at room tokens = until_at CloseParen (param_behind_at room) tokens
+more_params_at room tokens = until_at CloseParen (param_after_at room) tokens
 
 unfoldable pub first_params_at : ℕ → List Token → Read (List ParamTree)
 first_params_at room tokens = do
   first ← param_at room tokens
-  with_front (first.0 ∷ []) (more_params_at room first.1)
+  with_prefix (first.0 ∷ []) (more_params_at room first.1)
 
 unfoldable pub no_params_at : List Token → Read (List ParamTree)
 no_params_at tokens = do
@@ -378,8 +378,8 @@ ret_at room tokens = if begins (kinds.Keyword words.Void) tokens then void_at to
 unfoldable pub func_at : ℕ → List Token → Read FuncTree
 func_at room tokens = do
   ret ← ret_at room tokens
-  name ← place_at kinds.Ident ret.1
-  params ← behind_at OpenParen (params_at room) name.1
+  name ← span_at kinds.Ident ret.1
+  params ← after_at OpenParen (params_at room) name.1
   Ok (record { ret = ret.0; name = name.0; params = params.0 }, params.1)
 
 unfoldable pub funcs_at : ℕ → List Token → Read (List FuncTree)
@@ -425,8 +425,8 @@ module_at room tokens = do
 unfoldable pub include_at : List Token → Read Entry
 include_at tokens = do
   word ← one_at kinds.Include tokens
-  place ← place_at kinds.Text word.1
-  Ok (entries.Include place.0, place.1)
+  text ← span_at kinds.Text word.1
+  Ok (entries.Include text.0, text.1)
 
 unfoldable pub entry_at : ℕ → List Token → Read Entry
 entry_at room tokens = if begins kinds.Include tokens then include_at tokens else module_at room tokens

@@ -1,5 +1,5 @@
--- What tokens spell, with the tokens behind it, and how such relations are joined (docs/IDL.md,
--- "Grammar"). A relation holds of the tokens, the tree that their front spells, and the tokens behind.
+-- What tokens spell, with the tokens after it, and how such relations are joined (docs/IDL.md,
+-- "Grammar"). A relation holds of the tokens, the tree that their prefix spells, and the tokens after.
 use Rattle.std.specs.Prelude.{◌≡◌, ◌⊎◌, Option, Some, None, List, [], ◌∷◌}
 use Rattle.idl_parse.specs.declared.kind.Kind.{Kind}
 use Rattle.idl_parse.specs.declared.token.Token.{Token}
@@ -11,7 +11,7 @@ Rel A = List Token → A → List Token → Type 0
 abbrev pub Gives : {A : Type 0} → A → Rel A
 Gives x tokens tree rest = (x ≡ tree) × (tokens ≡ rest)
 
--- one behind the other
+-- one after the other
 infixr 5 ◌⟫◌
 abbrev pub ◌⟫◌ : {A B : Type 0} → Rel A → (A → Rel B) → Rel B
 ◌⟫◌ {A} {B} P Q tokens tree rest = (x : A) × (mid : List Token) × P tokens x mid × Q x mid tree rest

@@ -3,7 +3,7 @@ use Rattle.std.specs.Prelude.{ℕ, ◌<◌, ◌≤◌, List, [], ◌∷◌, leng
 use Rattle.idl_parse.specs.declared.token.Token.{Token}
 use Rattle.idl_parse.specs.Forms.{IsForm}
 
--- From a place on the tokens stand one behind the other in the text, and the slice of each has the form of its kind.
+-- From an offset on the tokens stand one after the other in the text, and the slice of each has the form of its kind.
 abbrev pub AreSpans : List ℕ → ℕ → List Token → Type 0
 AreSpans text at [] = at ≤ length text
 AreSpans text at (token ∷ tokens) =

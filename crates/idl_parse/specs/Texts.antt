@@ -19,9 +19,9 @@ pub data UnitsSpell : List ℕ → List ℕ → List ℕ → Type 0 where
 -- the end or a line feed comes here, or in the escape that begins here
 pub data IsCut : List ℕ → Type 0 where
   here : {bytes : List ℕ} → IsCutOff bytes → IsCut bytes
-  behind_backslash : {b : ℕ} {rest : List ℕ} → b ≡ 92 → IsCutOff rest → IsCut (b ∷ rest)
-  behind_x : {b x : ℕ} {rest : List ℕ} → b ≡ 92 → x ≡ 120 → IsCutOff rest → IsCut (b ∷ x ∷ rest)
-  behind_digit : {b x h : ℕ} {rest : List ℕ} → b ≡ 92 → x ≡ 120 → is_digit h 16 ≡ true → IsCutOff rest → IsCut (b ∷ x ∷ h ∷ rest)
+  after_backslash : {b : ℕ} {rest : List ℕ} → b ≡ 92 → IsCutOff rest → IsCut (b ∷ rest)
+  after_x : {b x : ℕ} {rest : List ℕ} → b ≡ 92 → x ≡ 120 → IsCutOff rest → IsCut (b ∷ x ∷ rest)
+  after_digit : {b x h : ℕ} {rest : List ℕ} → b ≡ 92 → x ≡ 120 → is_digit h 16 ≡ true → IsCutOff rest → IsCut (b ∷ x ∷ h ∷ rest)
 
 -- a backslash with which neither an escape begins nor one that is cut
 pub record IsSpoilt (bytes : List ℕ) : Type 0 where
@@ -34,5 +34,5 @@ abbrev pub TextSpells : List ℕ → List ℕ → List ℕ → Type 0
 TextSpells spelled bytes rest = (inside : List ℕ) × (bytes ≡ 34 ∷ inside) × UnitsSpell spelled inside (34 ∷ rest)
 
 -- a text in quotes begins the bytes
-abbrev pub IsTextFront : List ℕ → List ℕ → Type 0
-IsTextFront bytes rest = (spelled : List ℕ) × TextSpells spelled bytes rest
+abbrev pub IsTextPrefix : List ℕ → List ℕ → Type 0
+IsTextPrefix bytes rest = (spelled : List ℕ) × TextSpells spelled bytes rest

@@ -29,7 +29,7 @@ basic_of (Keyword words.Double) = Some basics.Double
 basic_of (Keyword words.String) = Some basics.Text
 basic_of _ = None
 
--- "byte" | "short" | "int", behind "unsigned"
+-- "byte" | "short" | "int", after "unsigned"
 abbrev pub unsigned_of : Kind → Option BasicType
 unsigned_of (Keyword words.Byte) = Some basics.UnsignedByte
 unsigned_of (Keyword words.Short) = Some basics.UnsignedShort

@@ -1,11 +1,11 @@
 ghost use Rattle.std.specs.Prelude.{◌≡◌, ◌⊎◌, ◌↔◌, ◌^◌, ◌<◌, ◌≤◌, ℕ, suc, length, MatchOption, IfOk, List as Listed};
 ghost use Rattle.std.specs.List.{All};
 ghost use Rattle.idl_parse.specs.Depth.{Shallow};
-ghost use Rattle.idl_parse.specs.Files.{IsFileText, include_places, IsInclude};
+ghost use Rattle.idl_parse.specs.Files.{IsFileText, include_spans, IsInclude};
 ghost use Rattle.idl_parse.specs.Grammar.{nesting_limit, IsFile};
 ghost use Rattle.idl_parse.specs.Faults.{IsFault};
 ghost use Rattle.idl_parse.specs.Parsed.{IsFaultOf, IsRead, IsRefused, HasFault};
-ghost use Rattle.idl_parse.specs.Places.{EntryIn};
+ghost use Rattle.idl_parse.specs.TreeSpans.{EntryIn};
 ghost use Rattle.idl_parse.specs.Tokens.{Tokens as TokensOf};
 ghost use Rattle.idl_parse.specs.declared.parse_fault.ParseWhy.{ParseWhy as Why};
 ghost use Rattle.idl_parse.specs.declared.token.Token.{Token as Found};
@@ -22,7 +22,7 @@ use std::alloc::Global;
 use std::marker::Model;
 use tars_model::{Bytes8, List};
 
-/// A file as it is written. Places are those of its text, and the grammar derives its entries from the
+/// A file as it is written. Spans are those of its text, and the grammar derives its entries from the
 /// tokens of its text.
 #[derive(Drop)]
 pub struct Ast {
@@ -67,15 +67,15 @@ impl Ast {
         ensures entries { result.now ≡ self.now.entries }
         // The text is a file with these entries.
         ensures file { IsFileText self.now.text self.now.entries }
-        // Each part of the tree is the place of a token of its kind.
-        ensures places { All (EntryIn self.now.text) self.now.entries }
+        // Each part of the tree is the span of a token of its kind.
+        ensures spans { All (EntryIn self.now.text) self.now.entries }
     {
         self.entries.as_slice()
     }
 
     /// The name of the k-th include from 0, in the order of the text, escapes replaced.
     pub fn include(&self, k: usize) -> Option<&[u8]>
-        ensures { MatchOption result (length (include_places self.now.entries) ≤ k) (λ name. IsInclude self.now k name.now) }
+        ensures { MatchOption result (length (include_spans self.now.entries) ≤ k) (λ name. IsInclude self.now k name.now) }
     {
         let name = self.includes.get(k)?;
         Some(name.as_slice())

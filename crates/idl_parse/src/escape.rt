@@ -3,7 +3,7 @@
 ghost use Rattle.std.specs.Prelude.{◌≡◌, ◌<◌, ◌≤◌, ◌-◌, [], ◌++◌, length, slice_range, IfOk, OnOk};
 ghost use Rattle.idl_parse.specs.Bytes.{escaped};
 ghost use Rattle.idl_parse.specs.EscapeSteps.{hex_value, escape_step, given as given_by, unescaped};
-ghost use Rattle.idl_parse.specs.Texts.{IsTextFront, TextSpells};
+ghost use Rattle.idl_parse.specs.Texts.{IsTextPrefix, TextSpells};
 
 use std::alloc::{AllocError, Global};
 use tars_model::Bytes8;
@@ -94,7 +94,7 @@ fn between_quotes(word: &[u8]) -> &[u8]
 
 /// The bytes that a text in quotes spells, escapes replaced (docs/IDL.md, "Texts").
 pub fn spelled(alloc: Global, word: &[u8]) -> Result<Bytes8, AllocError>
-    requires { IsTextFront word.now [] }
+    requires { IsTextPrefix word.now [] }
     ensures { IfOk result (λ bytes. TextSpells bytes word.now []) }
 {
     unescaped(alloc, between_quotes(word))

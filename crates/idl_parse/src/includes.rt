@@ -2,8 +2,8 @@
 
 ghost use Rattle.std.specs.Prelude.{◌≡◌, ◌++◌, List as Listed, ℕ, ◌∷◌, [], IfOk, OnOk};
 ghost use Rattle.std.specs.List.{All};
-ghost use Rattle.idl_parse.specs.Files.{include_places, AllSpell};
-ghost use Rattle.idl_parse.specs.Places.{EntryIn};
+ghost use Rattle.idl_parse.specs.Files.{include_spans, AllSpell};
+ghost use Rattle.idl_parse.specs.TreeSpans.{EntryIn};
 
 use crate::escape::spelled;
 use crate::tree::Entry;
@@ -18,10 +18,10 @@ fn add_name(
     names: &mut List<Bytes8>,
 ) -> Result<(), AllocError>
     requires { EntryIn text.now entry.now }
-    ensures { OnOk result ((added : Listed (Listed ℕ)) × (names.new ≡ names.old ++ added) × AllSpell text.now (include_places (entry.now ∷ [])) added) }
+    ensures { OnOk result ((added : Listed (Listed ℕ)) × (names.new ≡ names.old ++ added) × AllSpell text.now (include_spans (entry.now ∷ [])) added) }
 {
-    if let Entry::Include(place) = entry {
-        names.push(spelled(alloc, place.slice(text))?)?;
+    if let Entry::Include(span) = entry {
+        names.push(spelled(alloc, span.slice(text))?)?;
     }
     Ok(())
 }
@@ -33,7 +33,7 @@ pub(crate) fn include_names(
     entries: &[Entry],
 ) -> Result<List<Bytes8>, AllocError>
     requires { All (EntryIn text.now) entries.now }
-    ensures { IfOk result (λ names. AllSpell text.now (include_places entries.now) names) }
+    ensures { IfOk result (λ names. AllSpell text.now (include_spans entries.now) names) }
 {
     let mut names = List::new(alloc);
     for entry in entries {

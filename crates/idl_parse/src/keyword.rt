@@ -115,7 +115,7 @@ impl Keyword {
     }
 
     /// The keyword that is written so.
-    #[tactic(auto, using(crate::proofs::Lexing::WordLaws::keyword_spelled))]
+    #[tactic(auto, using(crate::proofs::Lexing::Words::WordLaws::keyword_spelled))]
     pub fn from_word(word: &[u8]) -> Option<Keyword>
         ensures { MatchOption result ((keyword : AKeyword) → word.now ≢ keyword_text keyword)
             (λ keyword. word.now ≡ keyword_text keyword) }

@@ -12,7 +12,7 @@ pub enum LexFault {
     Memory,
 }
 
-/// What is wrong at the place of a fault.
+/// What is wrong at the offset of a fault.
 #[derive(Clone, Copy, Debug, PartialEq, Eq)]
 pub enum LexWhy {
     /// A byte that begins no token, or the backslash of an escape that is none.

@@ -10,13 +10,13 @@ ghost use Rattle.idl_parse.specs.LexAnswers.{GivesTokens, GivesFault, IsFaultOf}
 
 use crate::fault::Fault;
 use crate::lex_fault::LexFault;
-use crate::pieces::piece;
+use crate::lexemes::lexeme;
 use crate::token::Token;
 use std::alloc::Global;
 use tars_model::List;
 
 /// Where the rest of the text begins.
-fn place(text: &[u8], rest: &[u8]) -> u32
+fn offset_of(text: &[u8], rest: &[u8]) -> u32
     requires fits { length text.now < 2 ^ 32 }
     requires within { length rest.now ≤ length text.now }
     ensures { result ≡ length text.now - length rest.now }
@@ -38,12 +38,12 @@ pub fn lex(alloc: Global, text: &[u8]) -> Result<List<Token>, LexFault>
 {
     let mut tokens = List::new(alloc);
     let mut rest = text;
-    'pieces: while !rest.is_empty() {
-        let (kind, next) = match piece(rest) {
+    'lexemes: while !rest.is_empty() {
+        let (kind, next) = match lexeme(rest) {
             Ok(found) => found,
             Err(Fault { from, why }) => {
                 return Err(LexFault::Bad {
-                    at: place(text, from),
+                    at: offset_of(text, from),
                     why,
                 });
             }
@@ -51,8 +51,8 @@ pub fn lex(alloc: Global, text: &[u8]) -> Result<List<Token>, LexFault>
         if let Some(kind) = kind {
             tokens.push(Token {
                 kind,
-                start: place(text, rest),
-                end: place(text, next),
+                start: offset_of(text, rest),
+                end: offset_of(text, next),
             })?;
         }
         rest = next;

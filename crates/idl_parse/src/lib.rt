@@ -4,30 +4,30 @@
 //!
 //! Read `specs/Forms.antt` and `specs/Tokens.antt` first, which say what tokens and fault a text has, then
 //! `specs/Grammar.antt`, which has the productions, `specs/Faults.antt`, which says what fault tokens have,
-//! and `specs/Files.antt` and `specs/Places.antt`, which say what holds of a file that is read. The modules
+//! and `specs/Files.antt` and `specs/TreeSpans.antt`, which say what holds of a file that is read. The modules
 //! named `*Steps` follow the code's steps and are for the proofs.
 #![tactic(auto)]
 
 mod ast;
+mod candidate;
 mod escape;
 mod fault;
-mod front;
-mod gaps;
 mod includes;
 mod keyword;
 mod kind;
 mod lex_fault;
+mod lexemes;
 mod lexer;
 mod numbers;
 mod parse_fault;
 mod parser;
-mod pieces;
 mod runs;
 mod sign;
 mod span;
 mod texts;
 mod token;
 pub mod tree;
+mod trivia;
 mod words;
 
 pub use ast::{Ast, one_tree, parse};

@@ -3,9 +3,9 @@
 ghost use Rattle.std.specs.Prelude.{◌≡◌, ◌≤◌, ◌^◌, ◌<◌};
 ghost use Rattle.idl_parse.specs.LexSteps as spec;
 ghost use Rattle.idl_parse.specs.LexSteps.{Gives};
-ghost use Rattle.idl_parse.specs.LexSteps.{front_of};
+ghost use Rattle.idl_parse.specs.LexSteps.{candidate_of};
 
-use crate::front::Front;
+use crate::candidate::Candidate;
 use crate::kind::Kind;
 use crate::runs::{Class, begins, split_run};
 
@@ -36,14 +36,14 @@ fn is_at_most(digits: &[u8], base: u32, most: u64) -> bool
     true
 }
 
-/// The number whose digits stand behind `0x`.
+/// The number whose digits stand after `0x`.
 #[tactic(auto, unfolding(crate::specs::LexSteps::hexadecimal_at))]
-fn hexadecimal(digits: &[u8], most: u64) -> Front<'_>
-    ensures { front_of result ≡ spec.hexadecimal_at most digits.now }
+fn hexadecimal(digits: &[u8], most: u64) -> Candidate<'_>
+    ensures { candidate_of result ≡ spec.hexadecimal_at most digits.now }
 {
     let (digits, rest) = split_run(digits, Class::Hexadecimal);
     let in_range = is_at_most(digits, 16, most);
-    Front {
+    Candidate {
         kind: Kind::Number,
         in_range,
         rest,
@@ -52,17 +52,17 @@ fn hexadecimal(digits: &[u8], most: u64) -> Front<'_>
 
 /// The number or fraction that begins with decimal digits.
 #[tactic(auto, unfolding(crate::specs::LexSteps::decimal_at))]
-fn decimal(body: &[u8], most: u64) -> Front<'_>
-    ensures { front_of result ≡ spec.decimal_at most body.now }
+fn decimal(body: &[u8], most: u64) -> Candidate<'_>
+    ensures { candidate_of result ≡ spec.decimal_at most body.now }
 {
     let (whole, rest) = split_run(body, Class::Decimal);
     match rest {
-        [b'.', part @ ..] if begins(part, Class::Decimal) => Front {
+        [b'.', part @ ..] if begins(part, Class::Decimal) => Candidate {
             kind: Kind::Fraction,
             in_range: true,
             rest: split_run(part, Class::Decimal).1,
         },
-        _ => Front {
+        _ => Candidate {
             kind: Kind::Number,
             in_range: is_at_most(whole, 10, most),
             rest,
@@ -70,10 +70,10 @@ fn decimal(body: &[u8], most: u64) -> Front<'_>
     }
 }
 
-/// The number or fraction in front, without a minus.
+/// The number or fraction at the start, without a minus.
 #[tactic(auto, unfolding(crate::specs::LexSteps::unsigned_at))]
-fn unsigned(body: &[u8], most: u64) -> Option<Front<'_>>
-    ensures { Gives front_of result (spec.unsigned_at most body.now) }
+fn unsigned(body: &[u8], most: u64) -> Option<Candidate<'_>>
+    ensures { Gives candidate_of result (spec.unsigned_at most body.now) }
 {
     match body {
         [b'0', b'x', digits @ ..] if begins(digits, Class::Hexadecimal) => {
@@ -84,10 +84,10 @@ fn unsigned(body: &[u8], most: u64) -> Option<Front<'_>>
     }
 }
 
-/// The longest number or fraction in front.
+/// The longest number or fraction at the start.
 #[tactic(auto, unfolding(crate::specs::LexSteps::number_at))]
-pub fn number(bytes: &[u8]) -> Option<Front<'_>>
-    ensures { Gives front_of result (spec.number_at bytes.now) }
+pub fn number(bytes: &[u8]) -> Option<Candidate<'_>>
+    ensures { Gives candidate_of result (spec.number_at bytes.now) }
 {
     match bytes {
         [b'-', body @ ..] => unsigned(body, MOST_BELOW),

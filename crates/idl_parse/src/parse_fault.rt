@@ -12,7 +12,7 @@ pub enum ParseFault {
     Memory,
 }
 
-/// What is wrong at the place of a fault.
+/// What is wrong at the offset of a fault.
 #[derive(Clone, Copy, Debug, PartialEq, Eq)]
 pub enum ParseWhy {
     /// No file goes on with this token, or at the end the file is not complete.

@@ -29,7 +29,7 @@ pub fn is_in(class: Class, byte: u8) -> bool
     }
 }
 
-/// How many bytes in front are of the class.
+/// How many bytes at the start are of the class.
 fn run_len(bytes: &[u8], class: Class) -> usize
     ensures len { result ≡ prefix_len (spec.is_in class) bytes.now }
     ensures within { result ≤ length bytes.now }
@@ -37,8 +37,8 @@ fn run_len(bytes: &[u8], class: Class) -> usize
     bytes.iter().take_while(|b| is_in(class, **b)).count()
 }
 
-/// The longest front of bytes of the class, and what stands behind it.
-#[tactic(auto, using(crate::proofs::Lexing::RunLaws::runs))]
+/// The longest prefix of bytes of the class, and what stands after it.
+#[tactic(auto, using(crate::proofs::Lexing::Words::RunLaws::runs))]
 pub fn split_run(bytes: &[u8], class: Class) -> (&[u8], &[u8])
     ensures run { result.0.now ≡ spec.run (spec.is_in class) bytes.now }
     ensures rest { result.1.now ≡ spec.after_run (spec.is_in class) bytes.now }
@@ -46,7 +46,7 @@ pub fn split_run(bytes: &[u8], class: Class) -> (&[u8], &[u8])
     bytes.split_at(run_len(bytes, class))
 }
 
-/// Whether a byte of the class stands in front.
+/// Whether a byte of the class stands at the start.
 pub fn begins(bytes: &[u8], class: Class) -> bool
     ensures { result ≡ begins (spec.is_in class) bytes.now }
 {

@@ -2,7 +2,7 @@
 
 ghost use Rattle.std.specs.Prelude.{◌≡◌, ◌<◌, true, length, drop, IfOk, IfErr};
 ghost use Rattle.idl_parse.specs.Bytes.{begins, is_quote};
-ghost use Rattle.idl_parse.specs.Texts.{IsTextFront};
+ghost use Rattle.idl_parse.specs.Texts.{IsTextPrefix};
 ghost use Rattle.idl_parse.specs.Tokens.{IsFault};
 ghost use Rattle.idl_parse.specs.LexSteps as spec;
 ghost use Rattle.idl_parse.specs.LexSteps.{GivesOk};
@@ -11,7 +11,7 @@ use crate::fault::Fault;
 use crate::lex_fault::LexWhy;
 use crate::runs::{Class, is_in};
 
-/// Why no byte or escape of a text stands in front.
+/// Why no byte or escape of a text stands at the start.
 #[derive(Clone, Copy)]
 enum Stop {
     /// The quote that ends the text.
@@ -32,7 +32,7 @@ fn spoilt_by(byte: u8) -> Stop
     }
 }
 
-/// What stands behind a hexadecimal digit.
+/// What stands after a hexadecimal digit.
 #[tactic(auto, unfolding(crate::specs::LexSteps::digit_at))]
 fn after_digit(bytes: &[u8]) -> Result<&[u8], Stop>
     ensures { GivesOk (λ rest. rest.now) result (spec.digit_at bytes.now) }
@@ -44,7 +44,7 @@ fn after_digit(bytes: &[u8]) -> Result<&[u8], Stop>
     }
 }
 
-/// What stands behind the escape whose backslash came before the bytes.
+/// What stands after the escape whose backslash came before the bytes.
 #[tactic(auto, unfolding(crate::specs::LexSteps::escape_at))]
 fn after_escape(bytes: &[u8]) -> Result<&[u8], Stop>
     ensures { GivesOk (λ rest. rest.now) result (spec.escape_at bytes.now) }
@@ -57,7 +57,7 @@ fn after_escape(bytes: &[u8]) -> Result<&[u8], Stop>
     }
 }
 
-/// What stands behind the byte or escape of a text in front.
+/// What stands after the byte or escape of a text at the start.
 #[tactic(auto, unfolding(crate::specs::LexSteps::unit_at))]
 fn after_unit(bytes: &[u8]) -> Result<&[u8], Stop>
     ensures { GivesOk (λ rest. rest.now) result (spec.unit_at bytes.now) }
@@ -70,24 +70,24 @@ fn after_unit(bytes: &[u8]) -> Result<&[u8], Stop>
     }
 }
 
-fn behind_first(bytes: &[u8]) -> &[u8]
+fn after_first(bytes: &[u8]) -> &[u8]
     requires { 0 < length bytes.now }
     ensures { result.now ≡ drop 1 bytes.now }
 {
     &bytes[1..]
 }
 
-/// What stands behind the text whose first quote is the first byte.
+/// What stands after the text whose first quote is the first byte.
 pub fn after_text(bytes: &[u8]) -> Result<&[u8], Fault<'_>>
     requires { begins is_quote bytes.now ≡ true }
-    ensures text { IfOk result (λ rest. IsTextFront bytes.now rest.now) }
+    ensures text { IfOk result (λ rest. IsTextPrefix bytes.now rest.now) }
     ensures fault { IfErr result (λ fault. IsFault bytes.now fault.from.now fault.why) }
 {
-    let mut left = behind_first(bytes);
+    let mut left = after_first(bytes);
     'units: loop {
         match after_unit(left) {
             Ok(rest) => left = rest,
-            Err(Stop::Quote) => return Ok(behind_first(left)),
+            Err(Stop::Quote) => return Ok(after_first(left)),
             Err(Stop::Cut) => {
                 return Err(Fault {
                     from: bytes,

@@ -13,7 +13,7 @@ pub struct Token {
 }
 
 impl Token {
-    /// Its place.
+    /// Its span.
     pub(crate) fn span(self) -> Span
         ensures { result ≡ span self }
     {

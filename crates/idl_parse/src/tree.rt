@@ -1,5 +1,5 @@
 //! What a file declares, as it is written (docs/IDL.md, "Grammar"). A name, number or text is the
-//! place of its token.
+//! span of its token.
 
 mod decl;
 mod func;

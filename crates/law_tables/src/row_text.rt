@@ -45,10 +45,10 @@ fn escaped(alloc: Global, text: &str) -> Result<Vec<u8>, AllocError> {
 /// The bytes of a row's text. `~n`, `~t`, `~r` and `~xHH` stand for a byte, and `~N(PIECE)` for so many
 /// times the piece.
 pub fn bytes_of(alloc: Global, text: &str) -> Result<Vec<u8>, AllocError> {
-    let Some((front, more)) = text.split_once('~') else {
+    let Some((prefix, more)) = text.split_once('~') else {
         return Vec::from_slice(alloc, text.as_bytes());
     };
-    let mut bytes = Vec::from_slice(alloc, front.as_bytes())?;
+    let mut bytes = Vec::from_slice(alloc, prefix.as_bytes())?;
     for piece in more.split('~') {
         let piece = escaped(alloc, piece)?;
         bytes.extend_from_slice(&piece)?;

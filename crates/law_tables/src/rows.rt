@@ -27,7 +27,7 @@ fn scanned(alloc: Global, bytes: &[u8]) -> Result<String, AllocError>
     }
 }
 
-/// Each token with its first and its last place.
+/// Each token with its first and its last offset.
 fn shown(alloc: Global, tokens: &[Token]) -> Result<String, AllocError> {
     let mut all = String::new(alloc);
     for token in tokens {

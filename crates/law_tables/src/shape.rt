@@ -1,16 +1,16 @@
 //! A tree in short: the file once more without white space, comments and needless signs. A basic
-//! type and a literal stand by the name of their variant, and behind `@` is the place of a word that
-//! the tree keeps as a place.
+//! type and a literal stand by the name of their variant, and after `@` is the span of a word that
+//! the tree keeps as a span.
 
 use idl_parse::Span;
 use idl_parse::tree::*;
 use std::alloc::{AllocError, Global};
 use std::str;
 
-/// The bytes of a place.
-fn word<'a>(text: &'a [u8], place: Span) -> &'a str {
+/// The bytes of a span.
+fn word<'a>(text: &'a [u8], span: Span) -> &'a str {
     let bytes = text
-        .get(place.start as usize..place.end as usize)
+        .get(span.start as usize..span.end as usize)
         .unwrap_or(&[]);
     str::from_utf8(bytes).unwrap_or("?")
 }
@@ -50,8 +50,8 @@ fn typed_of(alloc: Global, text: &[u8], typed: &TypedName) -> Result<String, All
 
 fn literal_of(alloc: Global, text: &[u8], literal: &Literal) -> Result<String, AllocError> {
     match literal {
-        Literal::Word { word: kind, place } => {
-            let bytes = word(text, *place);
+        Literal::Word { word: kind, span } => {
+            let bytes = word(text, *span);
             format!(in alloc; "={kind:?} {bytes}")
         }
         Literal::Named(name) => {
@@ -190,8 +190,8 @@ pub fn shape_of(alloc: Global, text: &[u8], entries: &[Entry]) -> Result<String,
     let mut all = String::new(alloc);
     for entry in entries {
         let one = match entry {
-            Entry::Include(place) => {
-                let name = word(text, *place);
+            Entry::Include(span) => {
+                let name = word(text, *span);
                 format!(in alloc; "include {name};")?
             }
             Entry::Module(tree) => module_of(alloc, text, tree)?,

@@ -33,11 +33,11 @@ call_line l row =
     codes "call " ++ decimal row.call ++ codes " line " ++ decimal row.line ++ codes " " ++ (func_of l row.func).name
     ++ pick_text row.pick ++ id_text row.id ++ codes " " ++ end_text row.end ++ codes "\n"
 
--- The lines of a node: `sent NODE PLACE call K HEX` and `got NODE PLACE FATE HEX`, places from 1.
+-- The lines of a node: `sent NODE NUMBER call K HEX` and `got NODE NUMBER FATE HEX`, numbers from 1.
 
 unfoldable pub sent_line : ℕ → ℕ → SentRow → List ℕ
-sent_line node place row =
-    codes "sent " ++ decimal node ++ codes " " ++ decimal place ++ codes " call " ++ decimal row.call
+sent_line node number row =
+    codes "sent " ++ decimal node ++ codes " " ++ decimal number ++ codes " call " ++ decimal row.call
     ++ codes " " ++ encode_upper row.frame ++ codes "\n"
 
 abbrev pub is_id : CallId → Option CallId → Bool
@@ -55,14 +55,14 @@ fate_text rows (Used id) = codes "used " ++ decimal (call_with rows id)
 fate_text rows (Late word) = codes "late"
 
 unfoldable pub got_line : List Row → ℕ → ℕ → GotRow → List ℕ
-got_line rows node place row =
-    codes "got " ++ decimal node ++ codes " " ++ decimal place ++ codes " " ++ fate_text rows row.fate
+got_line rows node number row =
+    codes "got " ++ decimal node ++ codes " " ++ decimal number ++ codes " " ++ fate_text rows row.fate
     ++ codes " " ++ encode_upper row.packet ++ codes "\n"
 
--- a line for each row, which is given its place
+-- a line for each row, which is given its number
 abbrev pub numbered_lines : {X : Type 0} → (ℕ → X → List ℕ) → ℕ → List X → List ℕ
-numbered_lines line place [] = []
-numbered_lines line place (row ∷ rows) = line place row ++ numbered_lines line (place + 1) rows
+numbered_lines line number [] = []
+numbered_lines line number (row ∷ rows) = line number row ++ numbered_lines line (number + 1) rows
 
 -- what was sent to a node
 abbrev pub sent_lines : LinkLog → List ℕ

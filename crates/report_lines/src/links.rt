@@ -59,11 +59,11 @@ impl Lines {
     }
 
     #[tactic(auto, unfolding(crate::specs::ReportText::sent_line))]
-    fn put_sent_row(&mut self, node: u32, place: usize, row: &SentRow) -> Result<(), AllocError>
-        ensures { OnOk result (self.new ≡ self.old ++ sent_line node place row.now) }
+    fn put_sent_row(&mut self, node: u32, number: usize, row: &SentRow) -> Result<(), AllocError>
+        ensures { OnOk result (self.new ≡ self.old ++ sent_line node number row.now) }
     {
         let call = row.call;
-        self.show(format_args!("sent {node} {place} call {call} "))?;
+        self.show(format_args!("sent {node} {number} call {call} "))?;
         self.put_hex(row.frame.as_slice())?;
         self.show("\n")
     }
@@ -73,12 +73,12 @@ impl Lines {
         &mut self,
         rows: &[Row],
         node: u32,
-        place: usize,
+        number: usize,
         row: &GotRow,
     ) -> Result<(), AllocError>
-        ensures { OnOk result (self.new ≡ self.old ++ got_line rows.now node place row.now) }
+        ensures { OnOk result (self.new ≡ self.old ++ got_line rows.now node number row.now) }
     {
-        self.show(format_args!("got {node} {place} "))?;
+        self.show(format_args!("got {node} {number} "))?;
         self.put_fate(rows, row.fate)?;
         self.show(" ")?;
         self.put_hex(row.packet.as_slice())?;

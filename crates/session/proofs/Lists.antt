@@ -54,7 +54,7 @@ take_next f [] (suc n) x more e = absurd (cc)
 take_next f (z ∷ xs) zero x more e = ap (λ w. f w ∷ []) (cc)
 take_next f (z ∷ xs) (suc n) x more e = ap (λ zs. f z ∷ zs) (take_next f xs n x more e)
 
--- A list that is cut at two places.
+-- A list that is cut in two.
 
 -- nothing is after a prefix
 pub drop-take_same : {A : Type 0} (n : ℕ) (xs : List A) → drop n (take n xs) ≡ []

@@ -94,7 +94,7 @@ interface_in text entries = do
   Some (record { module_name = text_at text m.name; interface = text_at text i.name; func = names.0; first = names.1; second = names.2 })
 
 -- How an interface file is judged: it is accepted with its names, or refused (`file_fault` in
--- `specs/Refusals.antt` has the stage, the number and the place).
+-- `specs/Refusals.antt` has the stage, the number and the offset).
 pub data Verdict : Type 0 where
   accepted : InterfaceText → Verdict
   refused : FileFault → Verdict

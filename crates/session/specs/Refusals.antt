@@ -19,16 +19,16 @@ stage_text Parse = codes "parse"
 stage_text Check = codes "check"
 stage_text Script = codes "script"
 
--- `refused FILE STAGE NUMBER PLACE`
+-- `refused FILE STAGE NUMBER OFFSET`
 abbrev pub refusal_line : List ℕ → TextFault → List ℕ
 refusal_line name fault =
     codes "refused " ++ name ++ codes " " ++ stage_text fault.stage ++ codes " " ++ decimal fault.number ++ codes " "
-    ++ decimal fault.place ++ codes "\n"
+    ++ decimal fault.offset ++ codes "\n"
 
 -- what is wrong with a script, and with an interface file
 
 abbrev pub fault_at : Stage → ℕ → ℕ → TextFault
-fault_at stage number place = record { stage = stage; number = number; place = place }
+fault_at stage number offset = record { stage = stage; number = number; offset = offset }
 
 abbrev pub script_fault : ScriptFault → TextFault
 script_fault script.Form = fault_at Script 1 0

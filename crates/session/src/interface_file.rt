@@ -2,7 +2,7 @@
 
 ghost use Rattle.std.specs.Prelude.{◌≡◌, ◌<◌, ◌^◌, length, IfSome};
 ghost use Rattle.std.specs.List.{All};
-ghost use Rattle.idl_parse.specs.Places.{NameIn, FuncIn, EntryIn};
+ghost use Rattle.idl_parse.specs.TreeSpans.{NameIn, FuncIn, EntryIn};
 ghost use Rattle.session.specs.InterfaceFile.{one_module, one_interface, one_func, is_int_type, is_int_param, returns_int, two_ints, int_params, text_at, func_in, interface_in, IsJudged};
 ghost use Rattle.session.specs.VerdictSteps.{verdict_of};
 ghost use Rattle.session.specs.InterfaceFile.{names_of};
@@ -97,11 +97,11 @@ fn int_params(func: &FuncTree) -> Option<(Span, Span)>
 }
 
 /// The bytes of a name.
-fn name_text(text: &[u8], place: Span) -> &[u8]
-    requires { NameIn text.now place }
-    ensures { result.now ≡ text_at text.now place }
+fn name_text(text: &[u8], span: Span) -> &[u8]
+    requires { NameIn text.now span }
+    ensures { result.now ≡ text_at text.now span }
 {
-    place.slice(text)
+    span.slice(text)
 }
 
 /// The names of a function and of its parameters.

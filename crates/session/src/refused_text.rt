@@ -31,12 +31,12 @@ impl fmt::Display for Stage {
     }
 }
 
-/// Why a text is refused: what judged it, the number that the reason has there, and the place.
+/// Why a text is refused: what judged it, the number that the reason has there, and the offset.
 #[derive(Clone, Copy, Debug, PartialEq, Eq)]
 pub struct TextFault {
     pub stage: Stage,
     pub number: u8,
-    pub place: u32,
+    pub offset: u32,
 }
 
 /// A refused file. It prints as its line.
@@ -54,9 +54,9 @@ impl<'a> fmt::Display for RefusedText<'a> {
         let TextFault {
             stage,
             number,
-            place,
+            offset,
         } = self.fault;
-        write!(f, "refused {file} {stage} {number} {place}\n")
+        write!(f, "refused {file} {stage} {number} {offset}\n")
     }
 }
 
@@ -80,7 +80,7 @@ impl From<ScriptFault> for TextFault {
         TextFault {
             stage: Stage::Script,
             number,
-            place: 0,
+            offset: 0,
         }
     }
 }
@@ -89,7 +89,7 @@ impl From<FileFault> for TextFault {
     ghost from_gives = { λ fault e. e ≡ file_fault fault };
 
     fn from(fault: FileFault) -> Self {
-        let (stage, number, place) = match fault {
+        let (stage, number, offset) = match fault {
             FileFault::TooLong => (Stage::Parse, 5, 0),
             FileFault::Lex { at, why } => (Stage::Lex, why.number(), at),
             FileFault::Parse { at, why } => (Stage::Parse, why.number(), at),
@@ -98,7 +98,7 @@ impl From<FileFault> for TextFault {
         TextFault {
             stage,
             number,
-            place,
+            offset,
         }
     }
 }

@@ -20,7 +20,7 @@ abbrev pub number_of_layer : layer.Value-F Value Pair → ℤ
 number_of_layer (layer.Num n) = n
 number_of_layer _ = pos 0
 
--- the number at a place among the arguments
+-- the number at an index among the arguments
 abbrev pub argument : List Value → ℕ → ℤ
 argument args k = number_of_layer (out-Value (slice_index_or args k (Num (pos 0))))
 

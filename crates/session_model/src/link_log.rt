@@ -31,7 +31,7 @@ pub enum Cut {
     Failed,
     /// It ended.
     Ended,
-    /// The bytes at this place give a length that no packet has.
+    /// The bytes at this offset give a length that no packet has.
     Length { at: u64, length: u32 },
     /// A packet is no response.
     Response,

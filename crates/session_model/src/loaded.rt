@@ -19,7 +19,7 @@ pub struct ObjectName {
 /// How a servant answers a function.
 #[derive(Clone, Copy, Debug, PartialEq, Eq)]
 pub enum Rule {
-    /// The sum of two arguments, by their places among the arguments.
+    /// The sum of two arguments, by their indexes among the arguments.
     Add(u32, u32),
 }
 

@@ -10,7 +10,7 @@ fn file(alloc: Global, name: &str, bytes: &[u8]) -> Result<NamedFile, Memory> {
 }
 
 #[test]
-fn a_read_gives_a_front_or_its_fault(rt: HostRuntime) -> Result<(), Fail> {
+fn a_read_gives_a_prefix_or_its_fault(rt: HostRuntime) -> Result<(), Fail> {
     let alloc = rt.alloc();
     let list = vec![in alloc;
         file(alloc, "a.tars", b"module")?,
@@ -57,7 +57,7 @@ fn long_texts_are_read_and_written(rt: HostRuntime) -> Result<(), Fail> {
 }
 
 #[test]
-fn what_is_written_is_a_front_of_the_text(rt: HostRuntime) -> Result<(), Fail> {
+fn what_is_written_is_a_prefix_of_the_text(rt: HostRuntime) -> Result<(), Fail> {
     let alloc = rt.alloc();
     // the most bytes of a write, the room, the write that fails, what comes of `hello`
     let cases: [(usize, usize, u64, Result<(), Failed>, &[u8]); 6] = [

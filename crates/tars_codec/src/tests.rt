@@ -94,9 +94,9 @@ fn texts_of_255_bytes_have_a_short_length(rt: HostRuntime) -> Result<(), Fail> {
         (256, &[0x07, 0x00, 0x00, 0x01, 0x00]),
         (70000, &[0x07, 0x00, 0x01, 0x11, 0x70]),
     ];
-    for (len, front) in cases {
+    for (len, prefix) in cases {
         let text = vec![in alloc; b'x'; len as usize]?;
-        let mut wanted = Vec::from_slice(alloc, front)?;
+        let mut wanted = Vec::from_slice(alloc, prefix)?;
         wanted.extend_from_slice(&text)?;
         let members = [member(alloc, 0, Ty::Text)?];
         check(
@@ -119,9 +119,9 @@ fn bytes_are_a_simple_list(rt: HostRuntime) -> Result<(), Fail> {
         (300, &[0x1D, 0x00, 0x01, 0x01, 0x2C]),
         (40000, &[0x1D, 0x00, 0x02, 0x00, 0x00, 0x9C, 0x40]),
     ];
-    for (len, front) in cases {
+    for (len, prefix) in cases {
         let bytes = vec![in alloc; 0x0B; usize::from(len)]?;
-        let mut wanted = Vec::from_slice(alloc, front)?;
+        let mut wanted = Vec::from_slice(alloc, prefix)?;
         wanted.extend_from_slice(&bytes)?;
         let members = [member(alloc, 1, Ty::Vector(Boxed::new(alloc, Ty::Byte)?))?];
         check(
@@ -153,7 +153,7 @@ fn map_member(alloc: Global, tag: u8) -> Result<Member, AllocError>
 }
 
 #[test]
-fn entries_stand_behind_their_number(rt: HostRuntime) -> Result<(), Fail> {
+fn entries_stand_after_their_number(rt: HostRuntime) -> Result<(), Fail> {
     let alloc = rt.alloc();
     let members = [map_member(alloc, 9)?];
     check(

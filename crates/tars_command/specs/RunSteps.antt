@@ -1,7 +1,7 @@
 -- For the proofs: what the functions of src/command.rt return to one another.
 use Rattle.std.specs.Prelude.{◌≡◌, ℕ, ◌⊎◌, List, Option, Some, None, Result, Ok, Err}
 use Rattle.std.specs.declared.vec.Vec.{Vec}
-use Rattle.tars_base.specs.Contents.{Appends, AppendsFront}
+use Rattle.tars_base.specs.Contents.{Appends, AppendsPrefix}
 use Rattle.tars_base.specs.declared.status.Status.{Status}
 use Rattle.tars_base.specs.declared.status.Status.TheVariants.{WriteFault}
 use Rattle.session.specs.declared.load_fault.LoadFault.{LoadFault}
@@ -26,4 +26,4 @@ IsSessionText text = (l : Loaded) × IsLoaded l × (text ≡ report_text_of l (p
 -- after a text was written a run ends with the status meant, or with a write fault after a prefix of it
 abbrev pub EndsWith : Option (List ℕ) → Option (List ℕ) → List ℕ → Status → Status → Type 0
 EndsWith old new text meant status =
-    ((status ≡ meant) × Appends old new text) ⊎ ((status ≡ WriteFault) × AppendsFront old new text)
+    ((status ≡ meant) × Appends old new text) ⊎ ((status ≡ WriteFault) × AppendsPrefix old new text)

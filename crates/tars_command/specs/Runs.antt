@@ -1,6 +1,6 @@
 -- How a run ends and what it leaves in the sink, against what is due.
 use Rattle.std.specs.Prelude.{ℕ, ◌⊎◌, List, Option, Some, None}
-use Rattle.tars_base.specs.Contents.{Contents, Appends, AppendsFront, Keeps}
+use Rattle.tars_base.specs.Contents.{Contents, Appends, AppendsPrefix, Keeps}
 use Rattle.tars_base.specs.declared.status.Status.{Status}
 use Rattle.tars_base.specs.declared.status.Status.TheVariants.{Done, Refused, Usage, ReadFault, WriteFault, Memory}
 use Rattle.session_model.specs.declared.loaded.Loaded.{Loaded}
@@ -21,7 +21,7 @@ WritesDue (Some contents) words old new Done =
 WritesDue (Some contents) words old new Refused =
     (line : List ℕ) × Due contents words (refused line) × Appends old new line
 WritesDue (Some contents) words old new WriteFault =
-    (text : List ℕ) × IsDueText contents words text × AppendsFront old new text
+    (text : List ℕ) × IsDueText contents words text × AppendsPrefix old new text
 WritesDue (Some contents) words old new _ = Unit {0}
 
 -- a run may end so where this is due

@@ -1,7 +1,7 @@
 ghost use Rattle.std.specs.Prelude.{◌≡◌, ◌≢◌, ◌≤◌, ℕ, Ok, Err, IfOk, IfErr, IfSome, take, vec_len};
 ghost use Rattle.std.specs.IoError.{error_kind};
 ghost use Rattle.tars_base.specs.Causes.{HasCauseOf};
-ghost use Rattle.tars_base.specs.Contents.{IsFrontOfFile};
+ghost use Rattle.tars_base.specs.Contents.{IsPrefixOfFile};
 
 use crate::opener::Opener;
 use std::alloc::Global;
@@ -17,7 +17,7 @@ pub struct RealFiles<O> {
 }
 
 /// The first `most` bytes that a source has left, or all of them if it has fewer.
-fn read_front<R: Read + Drop>(alloc: Global, source: R, most: usize) -> io::Result<Vec<u8>>
+fn read_prefix<R: Read + Drop>(alloc: Global, source: R, most: usize) -> io::Result<Vec<u8>>
     ensures bytes { IfOk result (λ bytes. IfSome (R.remaining source) (λ left. bytes.items ≡ take most left)) }
     ensures within { IfOk result (λ bytes. vec_len bytes ≤ most) }
 {
@@ -40,11 +40,11 @@ impl<O: Opener> RealFiles<O> {
 
     fn open_and_read(&self, alloc: Global, name: &str, most: usize) -> io::Result<Vec<u8>>
         ensures bytes { IfOk result
-            (λ bytes. IsFrontOfFile (O.contents self.now.opener) name.now most bytes.items) }
+            (λ bytes. IsPrefixOfFile (O.contents self.now.opener) name.now most bytes.items) }
         ensures within { IfOk result (λ bytes. vec_len bytes ≤ most) }
     {
         let source = self.opener.open(name)?;
-        read_front(alloc, source, most)
+        read_prefix(alloc, source, most)
     }
 
     /// What a read gives to the caller. One that failed is counted; want of memory is no fault of the
@@ -86,7 +86,7 @@ mod tests {
     use std::test::Fail;
 
     #[test]
-    fn the_front_of_a_file_is_read(rt: HostRuntime) -> Result<(), Fail> {
+    fn the_prefix_of_a_file_is_read(rt: HostRuntime) -> Result<(), Fail> {
         let alloc = rt.alloc();
         let path = "real_files_test.txt";
         fs::write(&rt, path, "module M")?;

@@ -1,35 +1,35 @@
--- The fault of bytes that are no body (docs/PROTOCOL.md, "The place of a fault").
+-- The fault of bytes that are no body (docs/PROTOCOL.md, "The offset of a fault").
 use Rattle.std.specs.Prelude.{◌≡◌, ◌<◌, ℕ, suc, List, ◌++◌, length, take, codes}
 use Rattle.std.specs.Fmt.{decimal}
-use Rattle.longest_front.specs.Fronts.{Begins, FaultAt}
+use Rattle.longest_prefix.specs.Prefixes.{Begins, FaultAt}
 use Rattle.tars_wire.specs.declared.wire_fault.WireWhy.{WireWhy}
 use Rattle.tars_wire.specs.declared.wire_fault.WireWhy.TheVariants as why
 use Rattle.tars_wire.specs.declared.wire_fault.WireFault.{WireFault}
 use Rattle.tars_wire.specs.Spelled.{Rules, TYPES, SIZES, FIXED_TAGS, RISING_TAGS, ALL, IsBodyBy, IsBody}
 
--- Some bytes that keep these rules begin with all bytes up to this place and the one there.
+-- Some bytes that keep these rules begin with all bytes up to this offset and the one there.
 abbrev pub Keeps : Rules → List ℕ → ℕ → Type 0
-Keeps rules bytes place = Begins (IsBodyBy rules) (take (suc place) bytes)
+Keeps rules bytes offset = Begins (IsBodyBy rules) (take (suc offset) bytes)
 
 -- No bytes that keep these rules do.
 abbrev pub Breaks : Rules → List ℕ → ℕ → Type 0
-Breaks rules bytes place = Keeps rules bytes place → ⊥
+Breaks rules bytes offset = Keeps rules bytes offset → ⊥
 
--- The first rule that the byte at the place breaks: those of types, then of sizes, of fixed tags, of rising
+-- The first rule that the byte at the offset breaks: those of types, then of sizes, of fixed tags, of rising
 -- tags, and of the depth. Short, where there is no byte.
 abbrev pub IsReason : WireWhy → List ℕ → ℕ → Type 0
-IsReason why.Short bytes place = place ≡ length bytes
-IsReason why.BadType bytes place = (place < length bytes) × Breaks TYPES bytes place
-IsReason why.BadSize bytes place = (place < length bytes) × Keeps TYPES bytes place × Breaks SIZES bytes place
-IsReason why.BadTag bytes place = (place < length bytes) × Keeps SIZES bytes place × Breaks FIXED_TAGS bytes place
-IsReason why.Order bytes place = (place < length bytes) × Keeps FIXED_TAGS bytes place × Breaks RISING_TAGS bytes place
-IsReason why.Depth bytes place = (place < length bytes) × Keeps RISING_TAGS bytes place × Breaks ALL bytes place
+IsReason why.Short bytes offset = offset ≡ length bytes
+IsReason why.BadType bytes offset = (offset < length bytes) × Breaks TYPES bytes offset
+IsReason why.BadSize bytes offset = (offset < length bytes) × Keeps TYPES bytes offset × Breaks SIZES bytes offset
+IsReason why.BadTag bytes offset = (offset < length bytes) × Keeps SIZES bytes offset × Breaks FIXED_TAGS bytes offset
+IsReason why.Order bytes offset = (offset < length bytes) × Keeps FIXED_TAGS bytes offset × Breaks RISING_TAGS bytes offset
+IsReason why.Depth bytes offset = (offset < length bytes) × Keeps RISING_TAGS bytes offset × Breaks ALL bytes offset
 
--- The bytes are no body. The place is the length of the longest prefix that some body goes on from, and the
+-- The bytes are no body. The offset is the length of the longest prefix that some body goes on from, and the
 -- reason is what the byte there breaks.
 pub record IsFault (bytes : List ℕ) (fault : WireFault) : Type 0 where
   pub no_body : IsBody bytes → ⊥
-  pub place : FaultAt IsBody bytes fault.at
+  pub offset : FaultAt IsBody bytes fault.at
   pub reason : IsReason fault.why bytes fault.at
 
 abbrev pub HasFault : List ℕ → Type 0

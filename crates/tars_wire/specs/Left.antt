@@ -29,14 +29,14 @@ next_field (pairs_left (pair key v ps)) = Some (0, key)
 next_field (value_left v ps) = Some (1, v)
 
 -- what is left after it
-abbrev pub behind_next : Remaining → Remaining
-behind_next (fields_left no_fields) = fields_left no_fields
-behind_next (fields_left (field tag v fs)) = fields_left fs
-behind_next (values_left no_values) = values_left no_values
-behind_next (values_left (value v vs)) = values_left vs
-behind_next (pairs_left no_pairs) = pairs_left no_pairs
-behind_next (pairs_left (pair key v ps)) = value_left v ps
-behind_next (value_left v ps) = pairs_left ps
+abbrev pub after_next : Remaining → Remaining
+after_next (fields_left no_fields) = fields_left no_fields
+after_next (fields_left (field tag v fs)) = fields_left fs
+after_next (values_left no_values) = values_left no_values
+after_next (values_left (value v vs)) = values_left vs
+after_next (pairs_left no_pairs) = pairs_left no_pairs
+after_next (pairs_left (pair key v ps)) = value_left v ps
+after_next (value_left v ps) = pairs_left ps
 
 -- the type under which a value is spelled
 abbrev pub type_of_number : WireNumber → WireType
@@ -112,7 +112,7 @@ of_next f (Some next) = f next.1
 -- past the next field
 abbrev pub skipped : List Remaining → List Remaining
 skipped [] = []
-skipped (inner ∷ outer) = behind_next inner ∷ outer
+skipped (inner ∷ outer) = after_next inner ∷ outer
 
 abbrev pub inside_next : Option (ℕ × WireValue) → Remaining
 inside_next None = fields_left no_fields
@@ -133,7 +133,7 @@ LevelLeft room level.Body (fields_left fs) bytes rest = (from : ℕ) × Fields r
 LevelLeft room level.Struct (fields_left fs) bytes rest = (from : ℕ) × (mid : List ℕ) × Fields room from fs bytes mid × Head 0 wire.StructEnd mid rest
 LevelLeft room (level.List n) (values_left vs) bytes rest = Values room n vs bytes rest
 LevelLeft room (level.Map n) (pairs_left ps) bytes rest = (k : ℕ) × (n ≡ k + k) × Pairs room k ps bytes rest
-LevelLeft room (level.Map n) (value_left v ps) bytes rest = (k : ℕ) × (type : WireType) × (behind : List ℕ) × (next : List ℕ) × (n ≡ (k + k) + 1) × Head 1 type bytes behind × Contents room type v behind next × Pairs room k ps next rest
+LevelLeft room (level.Map n) (value_left v ps) bytes rest = (k : ℕ) × (type : WireType) × (following : List ℕ) × (next : List ℕ) × (n ≡ (k + k) + 1) × Head 1 type bytes following × Contents room type v following next × Pairs room k ps next rest
 LevelLeft room level bytes rest left = ⊥
 
 -- and at all levels

@@ -81,9 +81,9 @@ IsSizeBy sizes (int8 number) n = ⊥
 pub record SizeBy (rules : Rules) (n : ℕ) (input rest : List ℕ) : Type 0 where
   pub type : WireType
   pub number : WireNumber
-  pub behind : List ℕ
-  pub head : FixedHead rules.fixed_tags 0 type input behind
-  pub contents : Number type number behind rest
+  pub following : List ℕ
+  pub head : FixedHead rules.fixed_tags 0 type input following
+  pub contents : Number type number following rest
   pub size : IsSizeBy rules.sizes number n
 
 mutual
@@ -93,26 +93,26 @@ mutual
     is_float : {room : ℕ} {bytes input rest : List ℕ} → Bytes bytes input rest → length bytes ≡ 4 → ContentsBy rules room wire.Float (float bytes) input rest
     is_double : {room : ℕ} {bytes input rest : List ℕ} → Bytes bytes input rest → length bytes ≡ 8 → ContentsBy rules room wire.Double (double bytes) input rest
     is_string1 : {room size : ℕ} {bytes input rest : List ℕ} → size < 256 → Bytes bytes input rest → length bytes ≡ size → ContentsBy rules room wire.String1 (string1 bytes) (size ∷ input) rest
-    is_string4 : {room : ℕ} {size bytes input behind rest : List ℕ} → Bytes size input behind → length size ≡ 4 → Bytes bytes behind rest → length bytes ≡ from_be_bytes w32 size → ContentsBy rules room wire.String4 (string4 bytes) input rest
-    is_simple_list : {room n : ℕ} {bytes input behind last rest : List ℕ} → FixedHead rules.fixed_tags 0 wire.Int1 input behind → SizeBy rules n behind last → Bytes bytes last rest → length bytes ≡ n → ContentsBy rules room wire.SimpleList (simple_list bytes) input rest
-    is_list : {room n : ℕ} {values : WireValues} {input behind rest : List ℕ} → When rules.depth (0 < room) → SizeBy rules n input behind → ValuesBy rules (room - 1) n values behind rest → ContentsBy rules room wire.List (list values) input rest
-    is_map : {room n : ℕ} {pairs : WirePairs} {input behind rest : List ℕ} → When rules.depth (0 < room) → SizeBy rules n input behind → PairsBy rules (room - 1) n pairs behind rest → ContentsBy rules room wire.Map (map pairs) input rest
-    is_struct : {room : ℕ} {fields : WireFields} {input behind rest : List ℕ} → When rules.depth (0 < room) → FieldsBy rules (room - 1) 0 fields input behind → FixedHead rules.fixed_tags 0 wire.StructEnd behind rest → ContentsBy rules room wire.StructBegin (struct fields) input rest
+    is_string4 : {room : ℕ} {size bytes input following rest : List ℕ} → Bytes size input following → length size ≡ 4 → Bytes bytes following rest → length bytes ≡ from_be_bytes w32 size → ContentsBy rules room wire.String4 (string4 bytes) input rest
+    is_simple_list : {room n : ℕ} {bytes input following last rest : List ℕ} → FixedHead rules.fixed_tags 0 wire.Int1 input following → SizeBy rules n following last → Bytes bytes last rest → length bytes ≡ n → ContentsBy rules room wire.SimpleList (simple_list bytes) input rest
+    is_list : {room n : ℕ} {values : WireValues} {input following rest : List ℕ} → When rules.depth (0 < room) → SizeBy rules n input following → ValuesBy rules (room - 1) n values following rest → ContentsBy rules room wire.List (list values) input rest
+    is_map : {room n : ℕ} {pairs : WirePairs} {input following rest : List ℕ} → When rules.depth (0 < room) → SizeBy rules n input following → PairsBy rules (room - 1) n pairs following rest → ContentsBy rules room wire.Map (map pairs) input rest
+    is_struct : {room : ℕ} {fields : WireFields} {input following rest : List ℕ} → When rules.depth (0 < room) → FieldsBy rules (room - 1) 0 fields input following → FixedHead rules.fixed_tags 0 wire.StructEnd following rest → ContentsBy rules room wire.StructBegin (struct fields) input rest
 
   -- so many values of tag 0
   pub data ValuesBy (rules : Rules) : ℕ → ℕ → WireValues → List ℕ → List ℕ → Type 0 where
     no_more_values : {room : ℕ} {rest : List ℕ} → ValuesBy rules room zero no_values rest rest
-    one_value : {room n : ℕ} {type : WireType} {v : WireValue} {values : WireValues} {input behind next rest : List ℕ} → FixedHead rules.fixed_tags 0 type input behind → ContentsBy rules room type v behind next → ValuesBy rules room n values next rest → ValuesBy rules room (suc n) (value v values) input rest
+    one_value : {room n : ℕ} {type : WireType} {v : WireValue} {values : WireValues} {input following next rest : List ℕ} → FixedHead rules.fixed_tags 0 type input following → ContentsBy rules room type v following next → ValuesBy rules room n values next rest → ValuesBy rules room (suc n) (value v values) input rest
 
   -- so many keys of tag 0, each with a value of tag 1
   pub data PairsBy (rules : Rules) : ℕ → ℕ → WirePairs → List ℕ → List ℕ → Type 0 where
     no_more_pairs : {room : ℕ} {rest : List ℕ} → PairsBy rules room zero no_pairs rest rest
-    one_pair : {room n : ℕ} {key_type type : WireType} {key v : WireValue} {pairs : WirePairs} {input key_behind mid behind next rest : List ℕ} → FixedHead rules.fixed_tags 0 key_type input key_behind → ContentsBy rules room key_type key key_behind mid → FixedHead rules.fixed_tags 1 type mid behind → ContentsBy rules room type v behind next → PairsBy rules room n pairs next rest → PairsBy rules room (suc n) (pair key v pairs) input rest
+    one_pair : {room n : ℕ} {key_type type : WireType} {key v : WireValue} {pairs : WirePairs} {input key_after mid following next rest : List ℕ} → FixedHead rules.fixed_tags 0 key_type input key_after → ContentsBy rules room key_type key key_after mid → FixedHead rules.fixed_tags 1 type mid following → ContentsBy rules room type v following next → PairsBy rules room n pairs next rest → PairsBy rules room (suc n) (pair key v pairs) input rest
 
   -- fields with strictly rising tags, none of them below `from`
   pub data FieldsBy (rules : Rules) : ℕ → ℕ → WireFields → List ℕ → List ℕ → Type 0 where
     no_more_fields : {room from : ℕ} {rest : List ℕ} → FieldsBy rules room from no_fields rest rest
-    one_field : {room from tag : ℕ} {type : WireType} {v : WireValue} {fields : WireFields} {input behind next rest : List ℕ} → Head tag type input behind → When rules.rising_tags (from ≤ tag) → ContentsBy rules room type v behind next → FieldsBy rules room (tag + 1) fields next rest → FieldsBy rules room from (field tag v fields) input rest
+    one_field : {room from tag : ℕ} {type : WireType} {v : WireValue} {fields : WireFields} {input following next rest : List ℕ} → Head tag type input following → When rules.rising_tags (from ≤ tag) → ContentsBy rules room type v following next → FieldsBy rules room (tag + 1) fields next rest → FieldsBy rules room from (field tag v fields) input rest
 
 -- the same by all rules
 abbrev pub IsSize : WireNumber → ℕ → Type 0
@@ -136,9 +136,9 @@ Fields room from fields input rest = FieldsBy ALL room from fields input rest
 -- a field with its head: all of the bytes
 pub record SpelledField (room tag : ℕ) (v : WireValue) (bytes : List ℕ) : Type 0 where
   pub type : WireType
-  pub behind : List ℕ
-  pub head : Head tag type bytes behind
-  pub contents : Contents room type v behind []
+  pub following : List ℕ
+  pub head : Head tag type bytes following
+  pub contents : Contents room type v following []
 
 -- the bytes spell these fields, with strictly rising tags and no deeper than `room`
 abbrev pub Spelled : ℕ → List ℕ → WireFields → Type 0

@@ -38,7 +38,7 @@ pub fn one_outcome()
     ensures one { (bytes : List ℕ) (fault other : WireFault) → All (λ byte. byte < 256) bytes → IsFault bytes fault → IsFault bytes other → fault ≡ other }
 {}
 
-/// The reason of a fault is `Short` exactly where its place is the end of the bytes.
+/// The reason of a fault is `Short` exactly where its offset is the end of the bytes.
 pub fn short_is_at_the_end()
     ensures { (bytes : List ℕ) (fault : WireFault) → IsFault bytes fault → ((fault.why ≡ WireWhy.Short) ↔ (fault.at ≡ length bytes)) }
 {}

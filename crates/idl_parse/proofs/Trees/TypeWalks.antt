@@ -2,7 +2,7 @@
 use Rattle.std.proofs.Common.{◌≡◌, ℕ, zero, suc, ◌-◌, ◌<◌, Option, Some, None, List, [], ◌∷◌, ◌++◌, length, refl, ap, arith, subst}
 use Rattle.idl_parse.specs.Depth.{Shallow}
 use Rattle.idl_parse.specs.Grammar.{Scoped, Array, LiteralOf, VectorOf, MapOf, UnsignedOf, NamedOf, BasicOf, TypeOf, Typed}
-use Rattle.idl_parse.specs.Places.{StandsAt, IfThere, NameIn, ScopedIn, kind_of, LiteralIn, TypeIn, basic, named, vector, map, TypedIn, ArrayIn}
+use Rattle.idl_parse.specs.TreeSpans.{StandsAt, IfThere, NameIn, ScopedIn, kind_of, LiteralIn, TypeIn, basic, named, vector, map, TypedIn, ArrayIn}
 use Rattle.idl_parse.specs.Rules.{Rel, Either}
 use Rattle.idl_parse.specs.Words.{span, basic_of, unsigned_of, literal_of, scoped_name}
 use Rattle.idl_parse.specs.declared.keyword.Keyword.TheVariants as words
@@ -13,20 +13,20 @@ use Rattle.idl_parse.specs.declared.span.Span.{Span}
 use Rattle.idl_parse.specs.declared.token.Token.{Token}
 use Rattle.idl_parse.specs.declared.tree.literal.LiteralWord.{LiteralWord}
 use Rattle.idl_parse.specs.declared.tree.type_tree.TypeTree.{TypeTree}
-use Rattle.idl_parse.proofs.Parsing.Literals.{literals_flat, basics_flat, unsigned_flat}
-use Rattle.idl_parse.proofs.Parsing.Readers.{Begun, has_some, has_none}
-use Rattle.idl_parse.proofs.Parsing.TypeLaws.{type_shape, type_laws}
-use Rattle.idl_parse.proofs.Trees.Walks.{Walks, after, gives, one, means, either, maybe, saying, place}
+use Rattle.idl_parse.proofs.Parsing.Deriving.Literals.{literals_flat, basics_flat, unsigned_flat}
+use Rattle.idl_parse.proofs.Parsing.Combining.Readers.{Begun, has_some, has_none}
+use Rattle.idl_parse.proofs.Parsing.Deriving.TypeLaws.{type_shape, type_laws}
+use Rattle.idl_parse.proofs.Trees.Walks.{Walks, after, gives, one, means, either, maybe, saying, spanned}
 
 scoped_in : (text : List ℕ) (first : Span) (second : Option Span) → NameIn text first → IfThere (NameIn text) second → ScopedIn text (scoped_name first second)
 scoped_in text first None f s = (tt, f)
 scoped_in text first (Some name) f s = (f, s)
 
 pub scoped : {text : List ℕ} {limit a : ℕ} → Walks text limit a a Scoped Scoped (ScopedIn text)
-scoped {text = text} = after (place kinds.Ident refl) (λ first. after (maybe (after (one (kinds.Sign PathSep) refl) (λ _. saying (λ s e _. e) (place kinds.Ident refl)))) (λ second. gives (λ s f. scoped_in text first second f s)))
+scoped {text = text} = after (spanned kinds.Ident refl) (λ first. after (maybe (after (one (kinds.Sign PathSep) refl) (λ _. saying (λ s e _. e) (spanned kinds.Ident refl)))) (λ second. gives (λ s f. scoped_in text first second f s)))
 
 pub array : {text : List ℕ} {limit a : ℕ} → Walks text limit a a Array Array (ArrayIn text)
-array = after (one (kinds.Sign OpenBracket) refl) (λ bracket. after (place kinds.Number refl) (λ number. after (one (kinds.Sign CloseBracket) refl) (λ _. gives (λ _ e _. e))))
+array = after (one (kinds.Sign OpenBracket) refl) (λ bracket. after (spanned kinds.Number refl) (λ number. after (one (kinds.Sign CloseBracket) refl) (λ _. gives (λ _ e _. e))))
 
 same_word : {v w : LiteralWord} → Some v ≡ Some w → v ≡ w
 same_word e = cc
@@ -47,8 +47,8 @@ literal {text = text} {a = a} =
 -- ---- types
 
 -- something stands in a type, so that fewer are open before it than may be
-room_before : (limit a depth : ℕ) (ts rest front : List Token) (x : TypeTree) → TypeOf depth ts x rest → ts ≡ front ++ rest → Shallow limit a front → a < limit
-room_before limit a depth ts rest (t ∷ front) x is whole shallow = shallow.0
+room_before : (limit a depth : ℕ) (ts rest prefix : List Token) (x : TypeTree) → TypeOf depth ts x rest → ts ≡ prefix ++ rest → Shallow limit a prefix → a < limit
+room_before limit a depth ts rest (t ∷ prefix) x is whole shallow = shallow.0
 room_before limit a depth ts rest [] x is whole shallow =
     absurd (begun ((type_laws (suc (length ts)) depth depth 0 (omega arith)).begun ts x rest (omega arith) is) (ap length whole))
   where
@@ -81,11 +81,11 @@ type_walks text (suc depth) limit a = record {
   walk = λ tokens x rest is.
       let h = (layer text limit a (TypeOf depth) (TypeOf (limit - suc a)) (type_walks text depth limit (suc a))).walk tokens x rest is in
       record {
-        front = h.front;
+        prefix = h.prefix;
         whole = h.whole;
-        open_behind = h.open_behind;
+        open_after = h.open_after;
         bounded = λ shallow.
-            let within : a < limit = room_before limit a (suc depth) tokens rest h.front x is h.whole shallow in
+            let within : a < limit = room_before limit a (suc depth) tokens rest h.prefix x is h.whole shallow in
             let room : suc (limit - suc a) ≡ limit - a = omega arith in
             subst (λ r. TypeOf r tokens x rest) room (h.bounded shallow);
         placed = h.placed;
@@ -99,4 +99,4 @@ types text depth limit =
     subst (λ r. Walks text limit 0 0 (TypeOf depth) (TypeOf r) (TypeIn text)) all (type_walks text depth limit 0)
 
 pub typed : (text : List ℕ) (depth limit : ℕ) → Walks text limit 0 0 (Typed depth) (Typed limit) (TypedIn text)
-typed text depth limit = after (types text depth limit) (λ ty. after (place kinds.Ident refl) (λ name. gives (λ n t. (t, n))))
+typed text depth limit = after (types text depth limit) (λ ty. after (spanned kinds.Ident refl) (λ name. gives (λ n t. (t, n))))

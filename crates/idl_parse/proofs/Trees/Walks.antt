@@ -3,14 +3,14 @@
 use Rattle.std.proofs.Common.{◌≡◌, ℕ, Option, Some, List, [], ◌∷◌, ◌++◌, refl, sym, ap, ◌∙◌, inl, inr, subst, append_assoc}
 use Rattle.std.proofs.lemmas.List.Elements.{All-nil, All-cons}
 use Rattle.std.specs.List.{All}
-use Rattle.idl_parse.specs.Depth.{behind, opened, Shallow}
-use Rattle.idl_parse.specs.Places.{StandsAt, IfThere}
-use Rattle.idl_parse.specs.Grammar.{Place}
+use Rattle.idl_parse.specs.Depth.{following, opened, Shallow}
+use Rattle.idl_parse.specs.TreeSpans.{StandsAt, IfThere}
+use Rattle.idl_parse.specs.Grammar.{SpanOf}
 use Rattle.idl_parse.specs.Rules.{Rel, Gives, ◌⟫◌, One, Means, Either, Maybe, Many, none, more}
 use Rattle.idl_parse.specs.Words.{span}
 use Rattle.idl_parse.specs.declared.kind.Kind.{Kind}
 use Rattle.idl_parse.specs.declared.token.Token.{Token}
-use Rattle.idl_parse.proofs.Parsing.Heads.{opened_append}
+use Rattle.idl_parse.proofs.Parsing.Combining.Heads.{opened_append}
 
 -- a token stands where it says
 abbrev pub TokenIn : List ℕ → Token → Type 0
@@ -26,15 +26,15 @@ tokens_parts text (t ∷ a) b all = let parts = tokens_parts text a b all.1 in (
 
 shallow_parts : (limit n : ℕ) (a b : List Token) → Shallow limit n (a ++ b) → Shallow limit n a × Shallow limit (opened n a) b
 shallow_parts limit n [] b all = (tt, all)
-shallow_parts limit n (t ∷ a) b all = let parts = shallow_parts limit (behind t.kind n) a b all.1 in ((all.0, parts.0), parts.1)
+shallow_parts limit n (t ∷ a) b all = let parts = shallow_parts limit (following t.kind n) a b all.1 in ((all.0, parts.0), parts.1)
 
 -- from a open ones to b; Q is the relation of bounded depth, and E what is said of the tree
 pub record Walked {A : Type 0} (text : List ℕ) (limit a b : ℕ) (Q : Rel A) (E : A → Type 0) (tokens : List Token) (x : A) (rest : List Token) : Type 0 where
-  pub front : List Token
-  pub whole : tokens ≡ front ++ rest
-  pub open_behind : opened a front ≡ b
-  pub bounded : Shallow limit a front → Q tokens x rest
-  pub placed : TokensIn text front → E x
+  pub prefix : List Token
+  pub whole : tokens ≡ prefix ++ rest
+  pub open_after : opened a prefix ≡ b
+  pub bounded : Shallow limit a prefix → Q tokens x rest
+  pub placed : TokensIn text prefix → E x
 
 pub record Walks {A : Type 0} (text : List ℕ) (limit a b : ℕ) (P Q : Rel A) (E : A → Type 0) : Type 0 where
   pub walk : (tokens : List Token) (x : A) (rest : List Token) → P tokens x rest → Walked text limit a b Q E tokens x rest
@@ -46,40 +46,40 @@ after {text = text} {limit = limit} {a = a} r s = record {
       let h = r.walk tokens x mid p in
       let j = (s x).walk mid y rest q in
       record {
-        front = h.front ++ j.front;
-        whole = h.whole ∙ ap (λ m. h.front ++ m) j.whole ∙ sym (append_assoc h.front j.front rest);
-        open_behind = opened_append a h.front j.front ∙ ap (λ o. opened o j.front) h.open_behind ∙ j.open_behind;
+        prefix = h.prefix ++ j.prefix;
+        whole = h.whole ∙ ap (λ m. h.prefix ++ m) j.whole ∙ sym (append_assoc h.prefix j.prefix rest);
+        open_after = opened_append a h.prefix j.prefix ∙ ap (λ o. opened o j.prefix) h.open_after ∙ j.open_after;
         bounded = λ shallow.
-            let parts = shallow_parts limit a h.front j.front shallow in
-            (x, mid, h.bounded parts.0, j.bounded (subst (λ o. Shallow limit o j.front) h.open_behind parts.1));
-        placed = λ all. let parts = tokens_parts text h.front j.front all in j.placed parts.1 (h.placed parts.0);
+            let parts = shallow_parts limit a h.prefix j.prefix shallow in
+            (x, mid, h.bounded parts.0, j.bounded (subst (λ o. Shallow limit o j.prefix) h.open_after parts.1));
+        placed = λ all. let parts = tokens_parts text h.prefix j.prefix all in j.placed parts.1 (h.placed parts.0);
       };
 }
 
 pub gives : {A : Type 0} {text : List ℕ} {limit a : ℕ} {x : A} {E : A → Type 0} → E x → Walks text limit a a (Gives x) (Gives x) E
 gives {E = E} e = record {
   walk = λ tokens y rest (same, is).
-      record { front = []; whole = is; open_behind = refl; bounded = λ shallow. (same, is); placed = λ all. subst E same e };
+      record { prefix = []; whole = is; open_after = refl; bounded = λ shallow. (same, is); placed = λ all. subst E same e };
 }
 
-pub one : {text : List ℕ} {limit a b : ℕ} (kind : Kind) → behind kind a ≡ b → Walks text limit a b (One kind) (One kind) (λ t. (t.kind ≡ kind) × TokenIn text t)
+pub one : {text : List ℕ} {limit a b : ℕ} (kind : Kind) → following kind a ≡ b → Walks text limit a b (One kind) (One kind) (λ t. (t.kind ≡ kind) × TokenIn text t)
 one {a = a} kind goes = record {
   walk = λ tokens t rest (is, whole).
-      record { front = t ∷ []; whole = whole; open_behind = ap (λ k. behind k a) is ∙ goes; bounded = λ shallow. (is, whole); placed = λ all. (is, all.0) };
+      record { prefix = t ∷ []; whole = whole; open_after = ap (λ k. following k a) is ∙ goes; bounded = λ shallow. (is, whole); placed = λ all. (is, all.0) };
 }
 
-pub means : {A : Type 0} {text : List ℕ} {limit a : ℕ} (meaning : Kind → Option A) → ((kind : Kind) (x : A) → meaning kind ≡ Some x → behind kind a ≡ a) → Walks text limit a a (Means meaning) (Means meaning) (λ w. (meaning w.0.kind ≡ Some w.1) × TokenIn text w.0)
+pub means : {A : Type 0} {text : List ℕ} {limit a : ℕ} (meaning : Kind → Option A) → ((kind : Kind) (x : A) → meaning kind ≡ Some x → following kind a ≡ a) → Walks text limit a a (Means meaning) (Means meaning) (λ w. (meaning w.0.kind ≡ Some w.1) × TokenIn text w.0)
 means meaning flat = record {
   walk = λ tokens w rest (is, whole).
-      record { front = w.0 ∷ []; whole = whole; open_behind = flat w.0.kind w.1 is; bounded = λ shallow. (is, whole); placed = λ all. (is, all.0) };
+      record { prefix = w.0 ∷ []; whole = whole; open_after = flat w.0.kind w.1 is; bounded = λ shallow. (is, whole); placed = λ all. (is, all.0) };
 }
 
 pub either : {A : Type 0} {text : List ℕ} {limit a b : ℕ} {P P' Q Q' : Rel A} {E : A → Type 0} → Walks text limit a b P P' E → Walks text limit a b Q Q' E → Walks text limit a b (Either P Q) (Either P' Q') E
 either {A = A} {text = text} {limit = limit} {a = a} {b = b} {P = P} {P' = P'} {Q = Q} {Q' = Q'} {E = E} r s = record { walk = by_side }
   where
     by_side : (tokens : List Token) (x : A) (rest : List Token) → Either P Q tokens x rest → Walked text limit a b (Either P' Q') E tokens x rest
-    by_side tokens x rest (inl p) = let h = r.walk tokens x rest p in record { front = h.front; whole = h.whole; open_behind = h.open_behind; bounded = λ shallow. inl (h.bounded shallow); placed = h.placed }
-    by_side tokens x rest (inr q) = let h = s.walk tokens x rest q in record { front = h.front; whole = h.whole; open_behind = h.open_behind; bounded = λ shallow. inr (h.bounded shallow); placed = h.placed }
+    by_side tokens x rest (inl p) = let h = r.walk tokens x rest p in record { prefix = h.prefix; whole = h.whole; open_after = h.open_after; bounded = λ shallow. inl (h.bounded shallow); placed = h.placed }
+    by_side tokens x rest (inr q) = let h = s.walk tokens x rest q in record { prefix = h.prefix; whole = h.whole; open_after = h.open_after; bounded = λ shallow. inr (h.bounded shallow); placed = h.placed }
 
 pub maybe : {A : Type 0} {text : List ℕ} {limit a : ℕ} {P P' : Rel A} {E : A → Type 0} → Walks text limit a a P P' E → Walks text limit a a (Maybe P) (Maybe P') (IfThere E)
 maybe r = either (after r (λ x. gives (λ e. e))) (gives tt)
@@ -88,18 +88,18 @@ pub many : {A : Type 0} {text : List ℕ} {limit a : ℕ} {P P' : Rel A} {E : A 
 many {A = A} {text = text} {limit = limit} {a = a} {P = P} {P' = P'} {E = E} r = record { walk = λ tokens xs rest all. each all }
   where
     each : {tokens rest : List Token} {xs : List A} → Many P tokens xs rest → Walked text limit a a (Many P') (All E) tokens xs rest
-    each none = record { front = []; whole = refl; open_behind = refl; bounded = λ shallow. none; placed = λ all. All-nil E }
+    each none = record { prefix = []; whole = refl; open_after = refl; bounded = λ shallow. none; placed = λ all. All-nil E }
     each (more {tokens = tokens} {mid = mid} {rest = rest} {x = x} {xs = xs} p ps) =
         let h = r.walk tokens x mid p in
         let j = each ps in
         record {
-          front = h.front ++ j.front;
-          whole = h.whole ∙ ap (λ m. h.front ++ m) j.whole ∙ sym (append_assoc h.front j.front rest);
-          open_behind = opened_append a h.front j.front ∙ ap (λ o. opened o j.front) h.open_behind ∙ j.open_behind;
+          prefix = h.prefix ++ j.prefix;
+          whole = h.whole ∙ ap (λ m. h.prefix ++ m) j.whole ∙ sym (append_assoc h.prefix j.prefix rest);
+          open_after = opened_append a h.prefix j.prefix ∙ ap (λ o. opened o j.prefix) h.open_after ∙ j.open_after;
           bounded = λ shallow.
-              let parts = shallow_parts limit a h.front j.front shallow in
-              more (h.bounded parts.0) (j.bounded (subst (λ o. Shallow limit o j.front) h.open_behind parts.1));
-          placed = λ all. let parts = tokens_parts text h.front j.front all in All-cons E x xs (h.placed parts.0) (j.placed parts.1);
+              let parts = shallow_parts limit a h.prefix j.prefix shallow in
+              more (h.bounded parts.0) (j.bounded (subst (λ o. Shallow limit o j.prefix) h.open_after parts.1));
+          placed = λ all. let parts = tokens_parts text h.prefix j.prefix all in All-cons E x xs (h.placed parts.0) (j.placed parts.1);
         }
 
 -- what is said may be said otherwise
@@ -107,9 +107,9 @@ pub saying : {A : Type 0} {text : List ℕ} {limit a b : ℕ} {P Q : Rel A} {E F
 saying says r = record {
   walk = λ tokens x rest p.
       let h = r.walk tokens x rest p in
-      record { front = h.front; whole = h.whole; open_behind = h.open_behind; bounded = h.bounded; placed = λ all. says x (h.placed all) };
+      record { prefix = h.prefix; whole = h.whole; open_after = h.open_after; bounded = h.bounded; placed = λ all. says x (h.placed all) };
 }
 
--- a token by its place
-pub place : {text : List ℕ} {limit a : ℕ} (kind : Kind) → behind kind a ≡ a → Walks text limit a a (Place kind) (Place kind) (StandsAt text kind)
-place {text = text} kind flat = after (one kind flat) (λ t. gives (λ e. subst (λ k. StandsAt text k (span t)) e.0 e.1))
+-- the span of a token
+pub spanned : {text : List ℕ} {limit a : ℕ} (kind : Kind) → following kind a ≡ a → Walks text limit a a (SpanOf kind) (SpanOf kind) (StandsAt text kind)
+spanned {text = text} kind flat = after (one kind flat) (λ t. gives (λ e. subst (λ k. StandsAt text k (span t)) e.0 e.1))

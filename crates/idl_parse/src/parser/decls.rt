@@ -1,6 +1,6 @@
 ghost use Rattle.std.specs.Prelude.{◌≡◌};
 ghost use Rattle.idl_parse.specs.Grammar.{nesting_limit};
-ghost use Rattle.idl_parse.specs.ReadSteps.{Reads, heading_at, struct_at, enum_at, const_at, name_behind_at, key_at, interface_at, decl_at, ended_at, decls_at};
+ghost use Rattle.idl_parse.specs.ReadSteps.{Reads, heading_at, struct_at, enum_at, const_at, name_after_at, key_at, interface_at, decl_at, ended_at, decls_at};
 
 use super::funcs::funcs;
 use super::halt::Halt;
@@ -39,7 +39,7 @@ fn struct_decl(alloc: Global, tokens: &mut Tokens<'_>) -> Result<DeclTree, Halt>
 }
 
 /// `enum ident { [ item { , item } [ , ] ] }`
-#[tactic(auto, using(crate::proofs::Parsing::ItemLaws::item_comma_shrinks), unfolding(crate::specs::ReadSteps::enum_at, crate::specs::ReadSteps::items_at))]
+#[tactic(auto, using(crate::proofs::Parsing::Repeating::ItemLaws::item_comma_shrinks), unfolding(crate::specs::ReadSteps::enum_at, crate::specs::ReadSteps::items_at))]
 fn enum_decl(alloc: Global, tokens: &mut Tokens<'_>) -> Result<DeclTree, Halt>
     ensures { Reads result tokens.new (enum_at tokens.old) }
 {
@@ -61,10 +61,10 @@ fn const_decl(alloc: Global, tokens: &mut Tokens<'_>) -> Result<DeclTree, Halt>
 }
 
 impl Item for Span {
-    ghost reading = { name_behind_at };
+    ghost reading = { name_after_at };
 
     /// `, ident`
-    #[tactic(auto, unfolding(crate::specs::ReadSteps::name_behind_at))]
+    #[tactic(auto, unfolding(crate::specs::ReadSteps::name_after_at))]
     fn read(_alloc: Global, tokens: &mut Tokens<'_>) -> Result<Span, Halt> {
         tokens.expect(Kind::Sign(Sign::Comma))?;
         tokens.span(Kind::Ident)
@@ -72,7 +72,7 @@ impl Item for Span {
 }
 
 /// `key [ ident { , ident } ]`
-#[tactic(auto, using(crate::proofs::Parsing::Turns::name_turn), unfolding(crate::specs::ReadSteps::key_at, crate::specs::ReadSteps::names_at))]
+#[tactic(auto, using(crate::proofs::Parsing::Repeating::Turns::name_turn), unfolding(crate::specs::ReadSteps::key_at, crate::specs::ReadSteps::names_at))]
 fn key_decl(alloc: Global, tokens: &mut Tokens<'_>) -> Result<DeclTree, Halt>
     ensures { Reads result tokens.new (key_at tokens.old) }
 {
@@ -97,7 +97,7 @@ fn interface_decl(alloc: Global, tokens: &mut Tokens<'_>) -> Result<DeclTree, Ha
 }
 
 /// `struct | enum | const | key | interface`
-#[tactic(auto, using(crate::proofs::Parsing::TokenSteps::decl_by_kind))]
+#[tactic(auto, using(crate::proofs::Parsing::Repeating::TokenSteps::decl_by_kind))]
 fn decl(alloc: Global, tokens: &mut Tokens<'_>) -> Result<DeclTree, Halt>
     ensures { Reads result tokens.new (decl_at nesting_limit tokens.old) }
 {
@@ -122,7 +122,7 @@ impl Item for DeclTree {
 }
 
 /// `{ decl ; } }`
-#[tactic(auto, using(crate::proofs::Parsing::Turns::decl_turn), unfolding(crate::specs::ReadSteps::decls_at))]
+#[tactic(auto, using(crate::proofs::Parsing::Repeating::Turns::decl_turn), unfolding(crate::specs::ReadSteps::decls_at))]
 pub(super) fn decls(alloc: Global, tokens: &mut Tokens<'_>) -> Result<List<DeclTree>, Halt>
     ensures { Reads result tokens.new (decls_at nesting_limit tokens.old) }
 {

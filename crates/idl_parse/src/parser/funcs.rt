@@ -1,6 +1,6 @@
 ghost use Rattle.std.specs.Prelude.{◌≡◌};
 ghost use Rattle.idl_parse.specs.Grammar.{nesting_limit};
-ghost use Rattle.idl_parse.specs.ReadSteps.{Reads, param_at, param_behind_at, first_params_at, params_at, ret_at, func_at, ended_at, funcs_at};
+ghost use Rattle.idl_parse.specs.ReadSteps.{Reads, param_at, param_after_at, first_params_at, params_at, ret_at, func_at, ended_at, funcs_at};
 
 use super::halt::Halt;
 use super::items::{Item, until, until_after};
@@ -30,10 +30,10 @@ fn param(alloc: Global, tokens: &mut Tokens<'_>) -> Result<ParamTree, Halt>
 }
 
 impl Item for ParamTree {
-    ghost reading = { param_behind_at nesting_limit };
+    ghost reading = { param_after_at nesting_limit };
 
     /// `, param`
-    #[tactic(auto, unfolding(crate::specs::ReadSteps::param_behind_at))]
+    #[tactic(auto, unfolding(crate::specs::ReadSteps::param_after_at))]
     fn read(alloc: Global, tokens: &mut Tokens<'_>) -> Result<ParamTree, Halt> {
         tokens.expect(Kind::Sign(Sign::Comma))?;
         param(alloc, tokens)
@@ -41,7 +41,7 @@ impl Item for ParamTree {
 }
 
 /// `param { , param } )`
-#[tactic(auto, using(crate::proofs::Parsing::Turns::param_turn), unfolding(crate::specs::ReadSteps::first_params_at, crate::specs::ReadSteps::more_params_at))]
+#[tactic(auto, using(crate::proofs::Parsing::Repeating::Turns::param_turn), unfolding(crate::specs::ReadSteps::first_params_at, crate::specs::ReadSteps::more_params_at))]
 fn first_params(alloc: Global, tokens: &mut Tokens<'_>) -> Result<List<ParamTree>, Halt>
     ensures { Reads result tokens.new (first_params_at nesting_limit tokens.old) }
 {
@@ -97,7 +97,7 @@ impl Item for FuncTree {
 }
 
 /// `{ func ; } }`
-#[tactic(auto, using(crate::proofs::Parsing::Turns::func_turn), unfolding(crate::specs::ReadSteps::funcs_at))]
+#[tactic(auto, using(crate::proofs::Parsing::Repeating::Turns::func_turn), unfolding(crate::specs::ReadSteps::funcs_at))]
 pub(super) fn funcs(alloc: Global, tokens: &mut Tokens<'_>) -> Result<List<FuncTree>, Halt>
     ensures { Reads result tokens.new (funcs_at nesting_limit tokens.old) }
 {

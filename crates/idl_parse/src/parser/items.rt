@@ -1,7 +1,7 @@
 //! Items one after the other, up to a closing sign.
 
 ghost use Rattle.std.specs.Prelude.{◌≡◌, List as Listed};
-ghost use Rattle.idl_parse.specs.ReadSteps.{Read, Reads, Shrinks, until_at, with_front};
+ghost use Rattle.idl_parse.specs.ReadSteps.{Read, Reads, Shrinks, until_at, with_prefix};
 ghost use Rattle.idl_parse.specs.declared.token.Token.{Token as Found};
 
 use super::halt::Halt;
@@ -27,7 +27,7 @@ pub(super) fn until_after<T: Item>(
     tokens: &mut Tokens<'_>,
 ) -> Result<List<T>, Halt>
     requires { Shrinks T.reading }
-    ensures { Reads result tokens.new (with_front before (until_at close T.reading tokens.old)) }
+    ensures { Reads result tokens.new (with_prefix before (until_at close T.reading tokens.old)) }
 {
     let mut items = before;
     'items: while !tokens.sees(Kind::Sign(close)) {
@@ -39,7 +39,7 @@ pub(super) fn until_after<T: Item>(
 }
 
 /// The items up to the closing sign, each of which takes a token.
-#[tactic(auto, using(crate::proofs::Parsing::LoopSteps::nothing_before))]
+#[tactic(auto, using(crate::proofs::Parsing::Repeating::LoopSteps::nothing_before))]
 pub(super) fn until<T: Item>(
     alloc: Global,
     close: Sign,

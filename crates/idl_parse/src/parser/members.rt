@@ -85,7 +85,7 @@ impl Item for MemberTree {
 }
 
 /// `{ member ; } }`
-#[tactic(auto, using(crate::proofs::Parsing::Turns::member_turn), unfolding(crate::specs::ReadSteps::members_at))]
+#[tactic(auto, using(crate::proofs::Parsing::Repeating::Turns::member_turn), unfolding(crate::specs::ReadSteps::members_at))]
 pub(super) fn members(alloc: Global, tokens: &mut Tokens<'_>) -> Result<List<MemberTree>, Halt>
     ensures { Reads result tokens.new (members_at nesting_limit tokens.old) }
 {

@@ -85,6 +85,6 @@ fn word_literal(tokens: &mut Tokens<'_>) -> Result<Literal, Halt>
     tokens.skip();
     Ok(Literal::Word {
         word,
-        place: token.span(),
+        span: token.span(),
     })
 }

@@ -1,6 +1,6 @@
 ghost use Rattle.std.specs.Prelude.{◌≡◌, ◌↔◌, IsTrue, [], drop, is_some};
 ghost use Rattle.idl_parse.specs.KindSteps.{same_kind, first_kind, begins};
-ghost use Rattle.idl_parse.specs.ReadSteps.{Reads, Eats, Takes, HasFirst, one_at, place_at};
+ghost use Rattle.idl_parse.specs.ReadSteps.{Reads, Eats, Takes, HasFirst, one_at, span_at};
 ghost use Rattle.idl_parse.specs.declared.parse_fault.ParseWhy.TheVariants.{Unexpected as unexpected};
 ghost use Rattle.idl_parse.specs.declared.parser.halt.Halt.TheVariants.{Grammar as grammar};
 
@@ -124,10 +124,10 @@ impl<'a> Tokens<'a> {
         self.next_if(kind).ok_or(self.unexpected())
     }
 
-    /// Takes a token of the kind, and gives its place.
-    #[tactic(auto, unfolding(crate::specs::ReadSteps::place_at))]
+    /// Takes a token of the kind, and gives its span.
+    #[tactic(auto, unfolding(crate::specs::ReadSteps::span_at))]
     pub(super) fn span(&mut self, kind: Kind) -> Result<Span, Halt>
-        ensures { Reads result self.new (place_at kind self.old) }
+        ensures { Reads result self.new (span_at kind self.old) }
     {
         Ok(self.expect(kind)?.span())
     }

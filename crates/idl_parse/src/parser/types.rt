@@ -34,7 +34,7 @@ fn basic_of(kind: Kind) -> Option<BasicType>
     }
 }
 
-/// The type that a word behind `unsigned` is.
+/// The type that a word after `unsigned` is.
 fn unsigned_of(kind: Kind) -> Option<BasicType>
     ensures { result ≡ unsigned_of kind }
 {
@@ -137,7 +137,7 @@ fn map(alloc: Global, room: u8, tokens: &mut Tokens<'_>) -> Result<TypeTree, Hal
 
 /// A type with room for so many others inside it.
 #[cycle(types)]
-#[tactic(auto, using(crate::proofs::Parsing::TokenSteps::type_by_kind), unfolding(crate::specs::ReadSteps::named_at))]
+#[tactic(auto, using(crate::proofs::Parsing::Repeating::TokenSteps::type_by_kind), unfolding(crate::specs::ReadSteps::named_at))]
 fn type_around(alloc: Global, room: u8, tokens: &mut Tokens<'_>) -> Result<TypeTree, Halt>
     ensures { Reads result tokens.new (type_with (type_at room) tokens.old) }
 {

@@ -15,6 +15,6 @@ pub enum LiteralWord {
 #[derive(Clone, Copy, PartialEq, Eq)]
 pub enum Literal {
     /// A number, fraction, text (with its quotes, escapes as they are written) or truth value.
-    Word { word: LiteralWord, place: Span },
+    Word { word: LiteralWord, span: Span },
     Named(ScopedName),
 }

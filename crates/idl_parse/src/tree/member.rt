@@ -1,7 +1,7 @@
 use super::{Literal, TypedName};
 use crate::span::Span;
 
-/// `[length]` behind a member's name. `at` is where the `[` stands.
+/// `[length]` after a member's name. `at` is where the `[` stands.
 #[derive(Clone, Copy, PartialEq, Eq)]
 pub struct ArrayLen {
     pub at: u32,

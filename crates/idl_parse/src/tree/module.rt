@@ -9,7 +9,7 @@ pub struct ModuleTree {
     pub decls: List<DeclTree>,
 }
 
-/// What a file has: includes, by the place of the text, and modules.
+/// What a file has: includes, by the span of the text, and modules.
 #[derive(Drop)]
 pub enum Entry {
     Include(Span),

@@ -84,7 +84,7 @@ on_row : {s : Service} {xs : List Scripted} {n k : ℕ} {calls : List CallState}
     (P : Row → Type 0) (p : IsAt s xs n k calls os all row) → P (row_of p.call) → P row
 on_row P p h = subst P (sym p.row_is) h
 
--- a place has one scripted call
+-- an index has one scripted call
 one_call : {s : Service} {xs : List Scripted} {n k : ℕ} {calls : List CallState} {os : List Opened} {all : List GotFate} {row : Row}
     (x : Scripted) (p : IsAt s xs n k calls os all row) → slice_get xs k ≡ Some x → p.x ≡ x
 one_call x p e = some_is p.x x (sym p.x_at ∙ e)
@@ -130,12 +130,12 @@ replied_right l c h t =
     let s = service_of l in
     let os = opened c in
     record {
-      rule = λ k row x packet e f place.
+      rule = λ k row x packet e f number.
           let p = call_at os c.fates t.calls refl refl k row e in
           subst (λ (y : Scripted). Says row.end (reply_by (rule_of l) y.spec.args)) (one_call x p f)
           (on_row (λ (r : Row). Says r.end (reply_by (rule_of l) p.x.spec.args)) p
           (subst (Says (row_of p.call).end) (replies_by_rule l p.x.spec.args)
-          (rule_exactly packet p.is (ap (λ (r : Row). packet_of r.end) (sym p.row_is) ∙ place))));
+          (rule_exactly packet p.is (ap (λ (r : Row). packet_of r.end) (sym p.row_is) ∙ number))));
       packets = λ k row e.
           let p = call_at os c.fates t.calls refl refl k row e in
           subst (λ (r : Row). IsReplied l (all_got_rows s os c.fates) r r.end) (sym p.row_is)

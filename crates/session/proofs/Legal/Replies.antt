@@ -90,7 +90,7 @@ used_named {s = s} {fates = fates} os h packet frame id u =
     let f = fate_used s os fates packet frame id u in
     used_is_named id f.0 packet h f.2 (let e = f.1 in omega arith)
 
--- the fate at an id's own place tells whether a packet settled its call
+-- the fate at an id's own index tells whether a packet settled its call
 pub unused_id : {s : Service} {xs : List Scripted} {calls : List CallState} {args : List (List Value)} {fates : List GotFate}
     (os : List Opened) (n : ℕ) → IsSound s 0 xs calls args fates → (slice_get fates n ≡ Some (Used (record { 0 = n + 1 })) → ⊥)
     → IsUsedId (all_got_rows s os fates) (record { 0 = n + 1 }) → ⊥

@@ -1,4 +1,4 @@
--- What the rows of a sound course say, in order, and the call at each place.
+-- What the rows of a sound course say, in order, and the call at each index.
 use Rattle.std.proofs.Common.{◌≡◌, ◌<◌, ◌≤◌, ◌+◌, ℕ, zero, suc, Bool, true, false, cond, Option, Some, None, List, [], ◌∷◌, take, drop, map, fold, filter, count_by, slice_get, refl, sym, ap, arith, add-one}
 use Rattle.std.specs.List.{filter_map}
 use Rattle.tars_model.specs.declared.value.Value.{Value}
@@ -63,7 +63,7 @@ calls_sent (stopped h c r) = rw (calls_sent r) refl
 calls_sent (missed h c r) = rw (calls_sent r) refl
 calls_sent (replied h c r) = rw (calls_sent r) refl
 
--- The call at one place.
+-- The call at one index.
 
 -- a call after so many that were sent: what became of the packet that comes for it, and how it was opened
 pub data IsCall (s : Service) (n : ℕ) (x : Scripted) (fate : Option GotFate) (own : Option Opened) : CallState → Type 0 where
@@ -103,7 +103,7 @@ drop_none zero (x ∷ xs) e = absurd (cc)
 drop_none (suc n) [] e = (refl, refl)
 drop_none (suc n) (x ∷ xs) e = drop_none n xs e
 
--- one place further, after a call that was sent or not
+-- one index further, after a call that was sent or not
 after_unsent : {s : Service} {xs : List Scripted} {n k : ℕ} {calls : List CallState} {os : List Opened} {all : List GotFate} {row : Row} (x : Scripted) (call : CallState)
     → call.id ≡ None → IsAt s xs n k calls os all row → IsAt s (x ∷ xs) n (suc k) (call ∷ calls) os all row
 after_unsent {k = k} {calls = calls} x call none_is p = record {

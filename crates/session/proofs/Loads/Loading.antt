@@ -3,7 +3,7 @@ use Rattle.std.proofs.Common.{◌≡◌, ◌<◌, ◌≤◌, ◌⊎◌, inl, inr
 use Rattle.std.specs.Prelude.{Result, Ok, Err, IfSome, MatchOption}
 use Rattle.std.proofs.lemmas.Bool.{cases_lt}
 use Rattle.std.proofs.lemmas.List.{take_all}
-use Rattle.tars_base.specs.Contents.{Contents, HoldsOnly, IsToldOnly, IsFrontOfFile}
+use Rattle.tars_base.specs.Contents.{Contents, HoldsOnly, IsToldOnly, IsPrefixOfFile}
 use Rattle.session.specs.declared.load_fault.LoadFault.{LoadFault}
 use Rattle.session.specs.declared.load_fault.LoadFault.TheVariants.{Refused, Read, Memory}
 use Rattle.session_model.specs.declared.loaded.Loaded.{Loaded}
@@ -36,7 +36,7 @@ MOST = 1048577
 abbrev pub IsRead : Contents → List ℕ → List ℕ → Type 0
 IsRead c name bytes = (file : List ℕ) × (c name ≡ Some file) × (bytes ≡ take MOST file)
 
-file_of : (c : Contents) (name bytes : List ℕ) → IsFrontOfFile (Some c) name MOST bytes → IsRead c name bytes
+file_of : (c : Contents) (name bytes : List ℕ) → IsPrefixOfFile (Some c) name MOST bytes → IsRead c name bytes
 file_of c name bytes read = by_file (c name) refl read
   where
     by_file : (o : Option (List ℕ)) → c name ≡ o → MatchOption o ⊥ (λ file. bytes ≡ take MOST file) → IsRead c name bytes
@@ -89,7 +89,7 @@ pub record HoldsInterface (c : Contents) (name : List ℕ) (v : Verdict) : Type 
   pub is : c name ≡ Some file
   pub judged : HoldsOnly (IsJudged file) v
 
-script_held : (c : Contents) (name bytes : List ℕ) (r : ScriptStruct) → IsFrontOfFile (Some c) name MOST bytes → HasRead bytes r → HoldsScript c name r
+script_held : (c : Contents) (name bytes : List ℕ) (r : ScriptStruct) → IsPrefixOfFile (Some c) name MOST bytes → HasRead bytes r → HoldsScript c name r
 script_held c name bytes r read found =
     let f = file_of c name bytes read in
     record {
@@ -100,7 +100,7 @@ script_held c name bytes r read found =
       reads = found.2;
     }
 
-interface_held : (c : Contents) (name bytes : List ℕ) (v : Verdict) → IsFrontOfFile (Some c) name MOST bytes → HoldsOnly (IsJudged bytes) v → HoldsInterface c name v
+interface_held : (c : Contents) (name bytes : List ℕ) (v : Verdict) → IsPrefixOfFile (Some c) name MOST bytes → HoldsOnly (IsJudged bytes) v → HoldsInterface c name v
 interface_held c name bytes v read judged =
     let f = file_of c name bytes read in
     let same = same_or_long bytes f.0 f.2 in
@@ -122,7 +122,7 @@ calls_read bytes r found = rw (found.2.events, ← calls_are found.0.events) fou
 abbrev pub IsExact : Option Contents → List ℕ → LoadAnswer → Type 0
 IsExact told name = IsToldOnly told (λ contents. Loads contents name)
 
-pub bad_script_told : (told : Option Contents) (name bytes : List ℕ) → IsFrontOfFile told name MOST bytes → ((s : ScriptText) → IsScriptText s bytes → ⊥) → IsExact told name (refused (refusal_line name (script_fault Form)))
+pub bad_script_told : (told : Option Contents) (name bytes : List ℕ) → IsPrefixOfFile told name MOST bytes → ((s : ScriptText) → IsScriptText s bytes → ⊥) → IsExact told name (refused (refusal_line name (script_fault Form)))
 bad_script_told None name bytes read none = tt
 bad_script_told (Some c) name bytes read none =
     let f = file_of c name bytes read in
@@ -133,8 +133,8 @@ bad_script_told (Some c) name bytes read none =
 client_is : (c : Contents) (name : List ℕ) (r : ScriptStruct) (v : Verdict) (h : HoldsScript c name r) (n : HoldsInterface c r.client.now v) → c h.text.client ≡ Some n.file
 client_is c name r v h n = ap c (sym h.reads.client) ∙ n.is
 
-pub bad_interface_told : (told : Option Contents) (name text file : List ℕ) (what : FileFault) (r : ScriptStruct) → IsFrontOfFile told name MOST text → HasRead text r
-    → IsFrontOfFile told r.client.now MOST file → HoldsOnly (IsJudged file) (verdict.refused what) → IsExact told name (refused (refusal_line r.client.now (file_fault what)))
+pub bad_interface_told : (told : Option Contents) (name text file : List ℕ) (what : FileFault) (r : ScriptStruct) → IsPrefixOfFile told name MOST text → HasRead text r
+    → IsPrefixOfFile told r.client.now MOST file → HoldsOnly (IsJudged file) (verdict.refused what) → IsExact told name (refused (refusal_line r.client.now (file_fault what)))
 bad_interface_told None name text file what r text_read found file_read judged = tt
 bad_interface_told (Some c) name text file what r text_read found file_read judged =
     let h = script_held c name text r text_read found in
@@ -142,16 +142,16 @@ bad_interface_told (Some c) name text file what r text_read found file_read judg
     subst (λ (client : List ℕ). HoldsOnly (Loads c name) (refused (refusal_line client (file_fault what)))) (sym h.reads.client)
     (bad_interface_only c name h.file n.file h.text what h.is h.form (client_is c name r (verdict.refused what) h n) n.judged)
 
-pub bad_value_told : (told : Option Contents) (name text file : List ℕ) (r : ScriptStruct) (i : InterfaceText) → IsFrontOfFile told name MOST text → HasRead text r
-    → IsFrontOfFile told r.client.now MOST file → HoldsOnly (IsJudged file) (accepted i) → ((s : ScriptText) → Reads r s → ¬ Agree s i) → IsExact told name (refused (refusal_line name (script_fault BadValue)))
+pub bad_value_told : (told : Option Contents) (name text file : List ℕ) (r : ScriptStruct) (i : InterfaceText) → IsPrefixOfFile told name MOST text → HasRead text r
+    → IsPrefixOfFile told r.client.now MOST file → HoldsOnly (IsJudged file) (accepted i) → ((s : ScriptText) → Reads r s → ¬ Agree s i) → IsExact told name (refused (refusal_line name (script_fault BadValue)))
 bad_value_told None name text file r i text_read found file_read judged unlike = tt
 bad_value_told (Some c) name text file r i text_read found file_read judged unlike =
     let h = script_held c name text r text_read found in
     let n = interface_held c r.client.now file (accepted i) file_read judged in
     bad_value_only c name h.file n.file h.text i h.is h.form (client_is c name r (accepted i) h n) n.judged (unlike h.text h.reads)
 
-pub loaded_told : (told : Option Contents) (name text file : List ℕ) (r : ScriptStruct) (i : InterfaceText) (l : Loaded) → IsFrontOfFile told name MOST text → HasRead text r
-    → IsFrontOfFile told r.client.now MOST file → HoldsOnly (IsJudged file) (accepted i) → ((s : ScriptText) → Reads r s → Agree s i × (l ≡ loaded_of s i)) → IsExact told name (loaded l)
+pub loaded_told : (told : Option Contents) (name text file : List ℕ) (r : ScriptStruct) (i : InterfaceText) (l : Loaded) → IsPrefixOfFile told name MOST text → HasRead text r
+    → IsPrefixOfFile told r.client.now MOST file → HoldsOnly (IsJudged file) (accepted i) → ((s : ScriptText) → Reads r s → Agree s i × (l ≡ loaded_of s i)) → IsExact told name (loaded l)
 loaded_told None name text file r i l text_read found file_read judged agree = tt
 loaded_told (Some c) name text file r i l text_read found file_read judged agree =
     let h = script_held c name text r text_read found in
@@ -166,8 +166,8 @@ refused_exact told name line Memory exact by = tt
 refused_exact told name line Read exact by = tt
 
 -- a refused file is told by its line, unless memory ran out
-pub file_refused_exact : (told : Option Contents) (name text file : List ℕ) (r : ScriptStruct) (fault : InterfaceFault) (answer : LoadFault) → IsFrontOfFile told name MOST text → HasRead text r
-    → IsFrontOfFile told r.client.now MOST file → IfSome (verdict_of (Err fault)) (HoldsOnly (IsJudged file)) → IsFileRefusedBy r.client.now fault answer → IfSome (answer_of (Err answer)) (IsExact told name)
+pub file_refused_exact : (told : Option Contents) (name text file : List ℕ) (r : ScriptStruct) (fault : InterfaceFault) (answer : LoadFault) → IsPrefixOfFile told name MOST text → HasRead text r
+    → IsPrefixOfFile told r.client.now MOST file → IfSome (verdict_of (Err fault)) (HoldsOnly (IsJudged file)) → IsFileRefusedBy r.client.now fault answer → IfSome (answer_of (Err answer)) (IsExact told name)
 file_refused_exact told name text file r (interfaces.Refused fault) answer text_read found file_read judged by =
     refused_exact told name (refusal_line r.client.now (file_fault fault)) answer (bad_interface_told told name text file fault r text_read found file_read judged) by
 file_refused_exact told name text file r interfaces.Memory answer text_read found file_read judged by = subst (λ (a : LoadFault). IfSome (answer_of (Err a)) (IsExact told name)) (sym by) tt

@@ -29,7 +29,7 @@ use Rattle.session_model.specs.Sessions.{NODE, func_of_two, schema_of_one}
 use Rattle.script_text.specs.Words.{number_of}
 use Rattle.facts.proofs.OptionLaws.{bind_some, some_is, chosen}
 
--- ---- places
+-- ---- indexes
 
 pub index_in_sound : (i : InterfaceText) (name : List ℕ) (k : ℕ) → index_in i name ≡ Some k → IsParameter i name × (k ≡ index_of i name)
 unfolding index_in

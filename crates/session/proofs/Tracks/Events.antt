@@ -15,7 +15,7 @@ use Rattle.session.specs.TrackSteps.{Tracks, Follows, Advances, Ends, course_of}
 use Rattle.session.proofs.Lists.{All-at}
 use Rattle.session.proofs.Tracks.OneEnd.{node_has, node_tracks}
 
--- an event at a place passes ints
+-- an event at an index passes ints
 pub ints_at : (events : List Event) (n : ℕ) (event : Event) → HaveInts events → n < length events → event ≡ slice_index_or events n event → HasInts event
 ints_at events n event h within e = All-at HasInts events n event h (slice_get_read events (length events) n event refl within e)
 

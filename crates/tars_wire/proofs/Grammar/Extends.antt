@@ -23,7 +23,7 @@ number_and (is_int4 bytes e) more = is_int4 (bytes_and bytes more) e
 number_and (is_int8 bytes e) more = is_int8 (bytes_and bytes more) e
 
 size_and : {n : ℕ} {input rest : List ℕ} → Size n input rest → (more : List ℕ) → Size n (input ++ more) (rest ++ more)
-size_and s more = record { type = s.type; number = s.number; behind = s.behind ++ more; head = head_and s.head more; contents = number_and s.contents more; size = s.size }
+size_and s more = record { type = s.type; number = s.number; following = s.following ++ more; head = head_and s.head more; contents = number_and s.contents more; size = s.size }
 
 mutual
   pub contents_and : {room : ℕ} {type : WireType} {v : WireValue} {input rest : List ℕ} → Contents room type v input rest → (more : List ℕ) → Contents room type v (input ++ more) (rest ++ more)

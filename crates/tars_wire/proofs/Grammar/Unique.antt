@@ -45,8 +45,8 @@ one_size (int8 z) m n e f = absurd e
 
 pub same_size : {m n : ℕ} {input rest rest' : List ℕ} → Size m input rest → Size n input rest' → Same m n rest rest'
 same_size {m} {n} {input} {rest} {rest'} a b =
-    let behind : Number a.type b.number a.behind rest' = by_head a.head b.head (λ tag type r. Number type b.number r rest') b.contents in
-    let same = same_number a.contents behind in
+    let following : Number a.type b.number a.following rest' = by_head a.head b.head (λ tag type r. Number type b.number r rest') b.contents in
+    let same = same_number a.contents following in
     record { value = one_size b.number m n (subst (λ (k : WireNumber). IsSize k m) same.value a.size) b.size; left = same.left }
 
 -- where fields can end: at the end of the bytes, or where a struct ends
@@ -54,7 +54,7 @@ pub data Stops : List ℕ → Type 0 where
   all_read : Stops []
   at_close : {input rest : List ℕ} → Head 0 wire.StructEnd input rest → Stops input
 
-end_is_no_field : {room tag : ℕ} {type : WireType} {v : WireValue} {input behind next : List ℕ} → Stops input → Head tag type input behind → Contents room type v behind next → ⊥
+end_is_no_field : {room tag : ℕ} {type : WireType} {v : WireValue} {input following next : List ℕ} → Stops input → Head tag type input following → Contents room type v following next → ⊥
 end_is_no_field {room} {tag} {type} all_read head contents = elim head [ ]
 end_is_no_field {room} {tag} {type} (at_close close) head contents =
     let same = same_head close head in
@@ -69,27 +69,27 @@ numbers_same (is_int2 bytes e) (is_whole b) = same_by whole (same_number (is_int
 numbers_same (is_int4 bytes e) (is_whole b) = same_by whole (same_number (is_int4 bytes e) b)
 numbers_same (is_int8 bytes e) (is_whole b) = same_by whole (same_number (is_int8 bytes e) b)
 
-by_length : {size size' bytes bytes' input behind behind' rest rest' : List ℕ} → Bytes size input behind → Bytes size' input behind' → length size ≡ length size' → Bytes bytes behind rest → length bytes ≡ from_be_bytes w32 size → Bytes bytes' behind' rest' → length bytes' ≡ from_be_bytes w32 size' → Same (string4 bytes) (string4 bytes') rest rest'
-by_length {size} {size'} {bytes} {bytes'} {input} {behind} {behind'} {rest} {rest'} s s' e b f b' f' =
+by_length : {size size' bytes bytes' input following following' rest rest' : List ℕ} → Bytes size input following → Bytes size' input following' → length size ≡ length size' → Bytes bytes following rest → length bytes ≡ from_be_bytes w32 size → Bytes bytes' following' rest' → length bytes' ≡ from_be_bytes w32 size' → Same (string4 bytes) (string4 bytes') rest rest'
+by_length {size} {size'} {bytes} {bytes'} {input} {following} {following'} {rest} {rest'} s s' e b f b' f' =
     let same = same_bytes s s' e in
-    let moved : Bytes bytes' behind rest' = subst (λ (r : List ℕ). Bytes bytes' r rest') (sym same.left) b' in
+    let moved : Bytes bytes' following rest' = subst (λ (r : List ℕ). Bytes bytes' r rest') (sym same.left) b' in
     same_by string4 (same_bytes b moved (f ∙ (ap (from_be_bytes w32) same.value ∙ sym f')))
 
-by_count : {n n' : ℕ} {bytes bytes' input behind behind' last last' rest rest' : List ℕ} → Head 0 wire.Int1 input behind → Head 0 wire.Int1 input behind' → Size n behind last → Size n' behind' last' → Bytes bytes last rest → length bytes ≡ n → Bytes bytes' last' rest' → length bytes' ≡ n' → Same (simple_list bytes) (simple_list bytes') rest rest'
-by_count {n} {n'} {bytes} {bytes'} {input} {behind} {behind'} {last} {last'} {rest} {rest'} h h' s s' b e b' e' =
+by_count : {n n' : ℕ} {bytes bytes' input following following' last last' rest rest' : List ℕ} → Head 0 wire.Int1 input following → Head 0 wire.Int1 input following' → Size n following last → Size n' following' last' → Bytes bytes last rest → length bytes ≡ n → Bytes bytes' last' rest' → length bytes' ≡ n' → Same (simple_list bytes) (simple_list bytes') rest rest'
+by_count {n} {n'} {bytes} {bytes'} {input} {following} {following'} {last} {last'} {rest} {rest'} h h' s s' b e b' e' =
     let same = same_size s (by_head h h' (λ tag t r. Size n' r last') s') in
     let moved : Bytes bytes' last rest' = subst (λ (r : List ℕ). Bytes bytes' r rest') (sym same.left) b' in
     same_by simple_list (same_bytes b moved (e ∙ (same.value ∙ sym e')))
 
-moved_values : {room : ℕ} {vs : WireValues} {rest : List ℕ} (n n' : ℕ) (behind behind' : List ℕ) → Same n n' behind behind' → Values room n' vs behind' rest → Values room n vs behind rest
-moved_values {room} {vs} {rest} n n' behind behind' s v =
-    let by_rest : Values room n' vs behind rest = subst (λ (r : List ℕ). Values room n' vs r rest) (sym s.left) v in
-    subst (λ (k : ℕ). Values room k vs behind rest) (sym s.value) by_rest
+moved_values : {room : ℕ} {vs : WireValues} {rest : List ℕ} (n n' : ℕ) (following following' : List ℕ) → Same n n' following following' → Values room n' vs following' rest → Values room n vs following rest
+moved_values {room} {vs} {rest} n n' following following' s v =
+    let by_rest : Values room n' vs following rest = subst (λ (r : List ℕ). Values room n' vs r rest) (sym s.left) v in
+    subst (λ (k : ℕ). Values room k vs following rest) (sym s.value) by_rest
 
-moved_pairs : {room : ℕ} {ps : WirePairs} {rest : List ℕ} (n n' : ℕ) (behind behind' : List ℕ) → Same n n' behind behind' → Pairs room n' ps behind' rest → Pairs room n ps behind rest
-moved_pairs {room} {ps} {rest} n n' behind behind' s p =
-    let by_rest : Pairs room n' ps behind rest = subst (λ (r : List ℕ). Pairs room n' ps r rest) (sym s.left) p in
-    subst (λ (k : ℕ). Pairs room k ps behind rest) (sym s.value) by_rest
+moved_pairs : {room : ℕ} {ps : WirePairs} {rest : List ℕ} (n n' : ℕ) (following following' : List ℕ) → Same n n' following following' → Pairs room n' ps following' rest → Pairs room n ps following rest
+moved_pairs {room} {ps} {rest} n n' following following' s p =
+    let by_rest : Pairs room n' ps following rest = subst (λ (r : List ℕ). Pairs room n' ps r rest) (sym s.left) p in
+    subst (λ (k : ℕ). Pairs room k ps following rest) (sym s.value) by_rest
 
 mutual
   pub same_contents : {room room' : ℕ} {type : WireType} {v v' : WireValue} {input rest rest' : List ℕ} → Contents room type v input rest → Contents room' type v' input rest' → Same v v' rest rest'
@@ -105,33 +105,33 @@ mutual
   same_contents (is_simple_list head size bytes e) (is_whole number) = elim number [ ]
   same_contents (is_simple_list head size bytes e) (is_simple_list head' size' bytes' e') = by_count head head' size size' bytes e bytes' e'
   same_contents (is_list deep size values) (is_whole number) = elim number [ ]
-  same_contents {room} {room'} {type} {v} {v'} {input} {rest} {rest'} (is_list {n = n} {values = vs} {behind = behind} deep size values) (is_list {n = n'} {values = vs'} {behind = behind'} deep' size' values') =
+  same_contents {room} {room'} {type} {v} {v'} {input} {rest} {rest'} (is_list {n = n} {values = vs} {following = following} deep size values) (is_list {n = n'} {values = vs'} {following = following'} deep' size' values') =
       let s = same_size size size' in
-      let moved : Values (room' - 1) n vs' behind rest' = moved_values n n' behind behind' s values' in
+      let moved : Values (room' - 1) n vs' following rest' = moved_values n n' following following' s values' in
       same_by list (same_values values moved)
   same_contents (is_map deep size pairs) (is_whole number) = elim number [ ]
-  same_contents {room} {room'} {type} {v} {v'} {input} {rest} {rest'} (is_map {n = n} {pairs = ps} {behind = behind} deep size pairs) (is_map {n = n'} {pairs = ps'} {behind = behind'} deep' size' pairs') =
+  same_contents {room} {room'} {type} {v} {v'} {input} {rest} {rest'} (is_map {n = n} {pairs = ps} {following = following} deep size pairs) (is_map {n = n'} {pairs = ps'} {following = following'} deep' size' pairs') =
       let s = same_size size size' in
-      let moved : Pairs (room' - 1) n ps' behind rest' = moved_pairs n n' behind behind' s pairs' in
+      let moved : Pairs (room' - 1) n ps' following rest' = moved_pairs n n' following following' s pairs' in
       same_by map (same_pairs pairs moved)
   same_contents (is_struct deep fields head) (is_whole number) = elim number [ ]
-  same_contents (is_struct {behind = behind} {rest = rest} deep fields head) (is_struct {behind = behind'} {rest = rest'} deep' fields' head') =
+  same_contents (is_struct {following = following} {rest = rest} deep fields head) (is_struct {following = following'} {rest = rest'} deep' fields' head') =
       let s = same_fields fields fields' (at_close head) (at_close head') in
-      let moved : Head 0 wire.StructEnd behind rest' = subst (λ (r : List ℕ). Head 0 wire.StructEnd r rest') (sym s.left) head' in
+      let moved : Head 0 wire.StructEnd following rest' = subst (λ (r : List ℕ). Head 0 wire.StructEnd r rest') (sym s.left) head' in
       let ends = same_head head moved in
       record { value = ap struct s.value; left = ends.2 }
 
   pub same_values : {room room' n : ℕ} {vs vs' : WireValues} {input rest rest' : List ℕ} → Values room n vs input rest → Values room' n vs' input rest' → Same vs vs' rest rest'
   same_values no_more_values no_more_values = record { value = refl; left = refl }
-  same_values (one_value {room = room} {n = n} {type = type} {v = v} {values = vs} {behind = behind} {next = next} {rest = rest} head contents values) (one_value {room = room'} {type = type'} {v = v'} {values = vs'} {behind = behind'} {next = next'} {rest = rest'} head' contents' values') =
+  same_values (one_value {room = room} {n = n} {type = type} {v = v} {values = vs} {following = following} {next = next} {rest = rest} head contents values) (one_value {room = room'} {type = type'} {v = v'} {values = vs'} {following = following'} {next = next'} {rest = rest'} head' contents' values') =
       let s = same_contents contents (by_head head head' (λ tag t r. Contents room' t v' r next') contents') in
       same_by_two value v v' vs vs' rest rest' s.value (same_values values (subst (λ (r : List ℕ). Values room' n vs' r rest') (sym s.left) values'))
 
   pub same_pairs : {room room' n : ℕ} {ps ps' : WirePairs} {input rest rest' : List ℕ} → Pairs room n ps input rest → Pairs room' n ps' input rest' → Same ps ps' rest rest'
   same_pairs no_more_pairs no_more_pairs = record { value = refl; left = refl }
-  same_pairs (one_pair {room = room} {n = n} {key = k} {v = v} {pairs = ps} {mid = mid} {next = next} {rest = rest} key_head key head contents pairs) (one_pair {room = room'} {type = type'} {key = k'} {v = v'} {pairs = ps'} {mid = mid'} {behind = behind'} {next = next'} {rest = rest'} key_head' key' head' contents' pairs') =
+  same_pairs (one_pair {room = room} {n = n} {key = k} {v = v} {pairs = ps} {mid = mid} {next = next} {rest = rest} key_head key head contents pairs) (one_pair {room = room'} {type = type'} {key = k'} {v = v'} {pairs = ps'} {mid = mid'} {following = following'} {next = next'} {rest = rest'} key_head' key' head' contents' pairs') =
       let s = same_contents key (by_head key_head key_head' (λ tag t r. Contents room' t k' r mid') key') in
-      let moved_head : Head 1 type' mid behind' = subst (λ (r : List ℕ). Head 1 type' r behind') (sym s.left) head' in
+      let moved_head : Head 1 type' mid following' = subst (λ (r : List ℕ). Head 1 type' r following') (sym s.left) head' in
       let t = same_contents contents (by_head head moved_head (λ tag t r. Contents room' t v' r next') contents') in
       let u = same_pairs pairs (subst (λ (r : List ℕ). Pairs room' n ps' r rest') (sym t.left) pairs') in
       record { value = cc (s.value, t.value, u.value); left = u.left }

@@ -31,17 +31,17 @@ judged_long : (rules : Rules) (context : HeadContext) (type : WireType) → take
 unfolding judged_byte long_fault
 judged_long rules context type t f d = rw (t, f, d) refl
 
-head_said : (rules : Rules) (context : HeadContext) (Behind : WireType → ℕ → List ℕ → Type 0) {type : WireType} {tag byte : ℕ} {w rest : List ℕ} → Head tag type (byte ∷ w) rest → takes context type ≡ true → tag_fault rules context type tag ≡ None → is_full rules context type ≡ false → is_deep rules context type ≡ false → Behind type tag rest → Said rules context Behind (first_byte rules context byte) w
-head_said rules context Behind {type} {tag} {byte} {w} (short e below) t f full deep b =
-    let P : Result FirstByte WireWhy → Type 0 = λ r. Said rules context Behind r w in
+head_said : (rules : Rules) (context : HeadContext) (Following : WireType → ℕ → List ℕ → Type 0) {type : WireType} {tag byte : ℕ} {w rest : List ℕ} → Head tag type (byte ∷ w) rest → takes context type ≡ true → tag_fault rules context type tag ≡ None → is_full rules context type ≡ false → is_deep rules context type ≡ false → Following type tag rest → Said rules context Following (first_byte rules context byte) w
+head_said rules context Following {type} {tag} {byte} {w} (short e below) t f full deep b =
+    let P : Result FirstByte WireWhy → Type 0 = λ r. Said rules context Following r w in
     subst P (sym (first_byte_is rules context byte tag type e ∙ judged_short rules context type tag below t f deep)) b
-head_said rules context Behind {type} {tag} {byte} {w} {rest} (long e below) t f full deep b =
-    let P : Result FirstByte WireWhy → Type 0 = λ r. Said rules context Behind r (tag ∷ rest) in
+head_said rules context Following {type} {tag} {byte} {w} {rest} (long e below) t f full deep b =
+    let P : Result FirstByte WireWhy → Type 0 = λ r. Said rules context Following r (tag ∷ rest) in
     let e' : byte ≡ 16 * 15 + code_of type = omega arith in
     subst P (sym (first_byte_is rules context byte 15 type e' ∙ judged_long rules context type t full deep)) (below, f, b)
 
-pub said : (rules : Rules) (context : HeadContext) (byte : ℕ) (w : List ℕ) (Behind : WireType → ℕ → List ℕ → Type 0) → Form rules context (byte ∷ w) Behind → Said rules context Behind (first_byte rules context byte) w
-said rules context byte w Behind form = head_said rules context Behind form.head form.taken form.tag_fits form.not_full form.not_deep form.behind
+pub said : (rules : Rules) (context : HeadContext) (byte : ℕ) (w : List ℕ) (Following : WireType → ℕ → List ℕ → Type 0) → Form rules context (byte ∷ w) Following → Said rules context Following (first_byte rules context byte) w
+said rules context byte w Following form = head_said rules context Following form.head form.taken form.tag_fits form.not_full form.not_deep form.following
 
 -- what the tests of a short head say
 pub short_fits : (rules : Rules) (context : HeadContext) (type : WireType) (tag : ℕ) → short_fault rules context type tag ≡ None → (tag_fault rules context type tag ≡ None) × (is_deep rules context type ≡ false)
@@ -92,37 +92,37 @@ not_full_below rules heads.Simple type tag below e = refl
 eqb_not : (m n : ℕ) → eqb m n ≡ false → m ≡ n → ⊥
 eqb_not m n e f = grind (arith, nat_tests)
 
-long_unsaid : (rules : Rules) (context : HeadContext) (type : WireType) (byte : ℕ) (w : List ℕ) (Behind : WireType → ℕ → List ℕ → Type 0) (fault : Option WireWhy) → byte ≡ 16 * 15 + code_of type → takes context type ≡ true → long_fault rules context type ≡ fault → Said rules context Behind (unless fault (first.Long type)) w → Form rules context (byte ∷ w) Behind
-long_unsaid rules context type byte w Behind (Some fault) e t f x = absurd x
-long_unsaid rules context type byte [] Behind None e t f x = absurd x
-long_unsaid rules context type byte (tag ∷ w) Behind None e t f x =
+long_unsaid : (rules : Rules) (context : HeadContext) (type : WireType) (byte : ℕ) (w : List ℕ) (Following : WireType → ℕ → List ℕ → Type 0) (fault : Option WireWhy) → byte ≡ 16 * 15 + code_of type → takes context type ≡ true → long_fault rules context type ≡ fault → Said rules context Following (unless fault (first.Long type)) w → Form rules context (byte ∷ w) Following
+long_unsaid rules context type byte w Following (Some fault) e t f x = absurd x
+long_unsaid rules context type byte [] Following None e t f x = absurd x
+long_unsaid rules context type byte (tag ∷ w) Following None e t f x =
     let fits = long_fits rules context type f in
-    record { type = type; tag = tag; rest = w; head = long (omega arith) x.0; taken = t; tag_fits = x.1; not_full = fits.0; not_deep = fits.1; behind = x.2 }
+    record { type = type; tag = tag; rest = w; head = long (omega arith) x.0; taken = t; tag_fits = x.1; not_full = fits.0; not_deep = fits.1; following = x.2 }
 
-short_unsaid : (rules : Rules) (context : HeadContext) (type : WireType) (byte tag : ℕ) (w : List ℕ) (Behind : WireType → ℕ → List ℕ → Type 0) (fault : Option WireWhy) → byte ≡ 16 * tag + code_of type → tag < 15 → takes context type ≡ true → short_fault rules context type tag ≡ fault → Said rules context Behind (unless fault (first.Whole (record { tag = tag; kind = type }))) w → Form rules context (byte ∷ w) Behind
-short_unsaid rules context type byte tag w Behind (Some fault) e below t f x = absurd x
-short_unsaid rules context type byte tag w Behind None e below t f x =
+short_unsaid : (rules : Rules) (context : HeadContext) (type : WireType) (byte tag : ℕ) (w : List ℕ) (Following : WireType → ℕ → List ℕ → Type 0) (fault : Option WireWhy) → byte ≡ 16 * tag + code_of type → tag < 15 → takes context type ≡ true → short_fault rules context type tag ≡ fault → Said rules context Following (unless fault (first.Whole (record { tag = tag; kind = type }))) w → Form rules context (byte ∷ w) Following
+short_unsaid rules context type byte tag w Following (Some fault) e below t f x = absurd x
+short_unsaid rules context type byte tag w Following None e below t f x =
     let fits = short_fits rules context type tag f in
-    record { type = type; tag = tag; rest = w; head = short e below; taken = t; tag_fits = fits.0; not_full = not_full_below rules context type tag below fits.0; not_deep = fits.1; behind = x }
+    record { type = type; tag = tag; rest = w; head = short e below; taken = t; tag_fits = fits.0; not_full = not_full_below rules context type tag below fits.0; not_deep = fits.1; following = x }
 
-byte_unsaid : (rules : Rules) (context : HeadContext) (type : WireType) (byte high : ℕ) (w : List ℕ) (Behind : WireType → ℕ → List ℕ → Type 0) → byte ≡ 16 * high + code_of type → high < 16 → Said rules context Behind (judged_byte rules context type high) w → Form rules context (byte ∷ w) Behind
+byte_unsaid : (rules : Rules) (context : HeadContext) (type : WireType) (byte high : ℕ) (w : List ℕ) (Following : WireType → ℕ → List ℕ → Type 0) → byte ≡ 16 * high + code_of type → high < 16 → Said rules context Following (judged_byte rules context type high) w → Form rules context (byte ∷ w) Following
 unfolding judged_byte
-byte_unsaid rules context type byte high w Behind e fits x = by_type (takes context type) refl x
+byte_unsaid rules context type byte high w Following e fits x = by_type (takes context type) refl x
   where
-    by_form : (b : Bool) → takes context type ≡ true → eqb high 15 ≡ b → Said rules context Behind (cond b (unless (long_fault rules context type) (first.Long type)) (unless (short_fault rules context type high) (first.Whole (record { tag = high; kind = type })))) w → Form rules context (byte ∷ w) Behind
-    by_form true t f x = long_unsaid rules context type byte w Behind (long_fault rules context type) (e ∙ ap (λ h. 16 * h + code_of type) (eqb_fact high 15 f)) t refl x
-    by_form false t f x = short_unsaid rules context type byte high w Behind (short_fault rules context type high) e (let no15 = eqb_not high 15 f in omega (arith, no15)) t refl x
+    by_form : (b : Bool) → takes context type ≡ true → eqb high 15 ≡ b → Said rules context Following (cond b (unless (long_fault rules context type) (first.Long type)) (unless (short_fault rules context type high) (first.Whole (record { tag = high; kind = type })))) w → Form rules context (byte ∷ w) Following
+    by_form true t f x = long_unsaid rules context type byte w Following (long_fault rules context type) (e ∙ ap (λ h. 16 * h + code_of type) (eqb_fact high 15 f)) t refl x
+    by_form false t f x = short_unsaid rules context type byte high w Following (short_fault rules context type high) e (let no15 = eqb_not high 15 f in omega (arith, no15)) t refl x
 
-    by_type : (b : Bool) → takes context type ≡ b → Said rules context Behind (cond b (cond (eqb high 15) (unless (long_fault rules context type) (first.Long type)) (unless (short_fault rules context type high) (first.Whole (record { tag = high; kind = type })))) (Err why.BadType)) w → Form rules context (byte ∷ w) Behind
+    by_type : (b : Bool) → takes context type ≡ b → Said rules context Following (cond b (cond (eqb high 15) (unless (long_fault rules context type) (first.Long type)) (unless (short_fault rules context type high) (first.Whole (record { tag = high; kind = type })))) (Err why.BadType)) w → Form rules context (byte ∷ w) Following
     by_type true t x = by_form (eqb high 15) t refl x
     by_type false t x = absurd x
 
-pub unsaid : (rules : Rules) (context : HeadContext) (byte : ℕ) (w : List ℕ) (Behind : WireType → ℕ → List ℕ → Type 0) → byte < 256 → Said rules context Behind (first_byte rules context byte) w → Form rules context (byte ∷ w) Behind
+pub unsaid : (rules : Rules) (context : HeadContext) (byte : ℕ) (w : List ℕ) (Following : WireType → ℕ → List ℕ → Type 0) → byte < 256 → Said rules context Following (first_byte rules context byte) w → Form rules context (byte ∷ w) Following
 unfolding first_byte
-unsaid rules context byte w Behind fits x = go (type_of (byte % 16)) refl x
+unsaid rules context byte w Following fits x = go (type_of (byte % 16)) refl x
   where
-    go : (o : Option WireType) → type_of (byte % 16) ≡ o → Said rules context Behind (typed_byte rules context o (byte / 16)) w → Form rules context (byte ∷ w) Behind
+    go : (o : Option WireType) → type_of (byte % 16) ≡ o → Said rules context Following (typed_byte rules context o (byte / 16)) w → Form rules context (byte ∷ w) Following
     go None e x = absurd x
     go (Some type) e x =
         let low = code_of-type_of (byte % 16) type e in
-        byte_unsaid rules context type byte (byte / 16) w Behind (omega arith) (omega arith) x
+        byte_unsaid rules context type byte (byte / 16) w Following (omega arith) (omega arith) x

@@ -46,14 +46,14 @@ contents_there rules (is_string1 {size = size} fits bytes e) below After k =
     (fits, run_there bytes (0 * 256 + size) (omega arith) (λ v. Parts rules below v After) k)
 contents_there rules (is_string4 {size = size} s e bytes f) below After k =
     later_there rules s of_bytes 4 0 e (λ v. Parts rules below v After) (run_there bytes (value_of 0 size) (f ∙ sym (value_four size e)) (λ v. Parts rules below v After) k)
-contents_there rules (is_simple_list {n = n} {behind = behind} {last = last} head size bytes e) below After k =
-    (behind, head, (n, last, size, run_there bytes n e (λ v. Parts rules below v After) k))
-contents_there rules (is_list {n = n} {values = vs} {behind = behind} {rest = rest} deep size values) below After k =
-    (n, behind, size, (vs, rest, values, k))
-contents_there rules (is_map {n = n} {pairs = ps} {behind = behind} {rest = rest} deep size pairs) below After k =
-    (n, behind, size, (ps, rest, pairs, k))
-contents_there rules (is_struct {fields = fs} {behind = behind} {rest = rest} deep fields head) below After k =
-    (fs, behind, rest, fields, head, k)
+contents_there rules (is_simple_list {n = n} {following = following} {last = last} head size bytes e) below After k =
+    (following, head, (n, last, size, run_there bytes n e (λ v. Parts rules below v After) k))
+contents_there rules (is_list {n = n} {values = vs} {following = following} {rest = rest} deep size values) below After k =
+    (n, following, size, (vs, rest, values, k))
+contents_there rules (is_map {n = n} {pairs = ps} {following = following} {rest = rest} deep size pairs) below After k =
+    (n, following, size, (ps, rest, pairs, k))
+contents_there rules (is_struct {fields = fs} {following = following} {rest = rest} deep fields head) below After k =
+    (fs, following, rest, fields, head, k)
 
 -- some contents are spelled
 pub record SomeContents (rules : Rules) (room : ℕ) (type : WireType) (w : List ℕ) (After : List ℕ → Type 0) : Type 0 where

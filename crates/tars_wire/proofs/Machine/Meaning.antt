@@ -43,9 +43,9 @@ abbrev pub InContext : Rules → Context → List ℕ → (List ℕ → Type 0) 
 InContext rules (in_struct from room) w After = (fs : WireFields) × (mid : List ℕ) × (rest : List ℕ) × FieldsBy rules room from fs w mid × FixedHead rules.fixed_tags 0 wire.StructEnd mid rest × After rest
 InContext rules (an_element more room) w After = Counted rules (of_values room) (suc more) w After
 InContext rules (a_key more room) w After = Counted rules (of_pairs room) (suc more) w After
-InContext rules (its_value more room) w After = (type : WireType) × (v : WireValue) × (behind : List ℕ) × (next : List ℕ) × FixedHead rules.fixed_tags 1 type w behind × ContentsBy rules room type v behind next × Counted rules (of_pairs room) more next After
+InContext rules (its_value more room) w After = (type : WireType) × (v : WireValue) × (following : List ℕ) × (next : List ℕ) × FixedHead rules.fixed_tags 1 type w following × ContentsBy rules room type v following next × Counted rules (of_pairs room) more next After
 InContext rules (a_size kind) w After = Sized rules kind w After
-InContext rules simple_head w After = (behind : List ℕ) × FixedHead rules.fixed_tags 0 wire.Int1 w behind × Sized rules of_bytes behind After
+InContext rules simple_head w After = (following : List ℕ) × FixedHead rules.fixed_tags 0 wire.Int1 w following × Sized rules of_bytes following After
 
 abbrev pub Awaits : Rules → Part → List ℕ → (List ℕ → Type 0) → Type 0
 Awaits rules (raw more) w After = Run (suc more) w After
@@ -59,8 +59,8 @@ Parts rules (part ∷ below) w After = Awaits rules part w (λ v. Parts rules be
 
 -- what comes after a long head's first byte
 abbrev pub Tagged : Rules → HeadContext → WireType → (WireType → ℕ → List ℕ → Type 0) → List ℕ → Type 0
-Tagged rules context type Behind [] = ⊥
-Tagged rules context type Behind (tag ∷ w) = (tag < 256) × (tag_fault rules context type tag ≡ None) × Behind type tag w
+Tagged rules context type Following [] = ⊥
+Tagged rules context type Following (tag ∷ w) = (tag < 256) × (tag_fault rules context type tag ≡ None) × Following type tag w
 
 abbrev pub Insides : Rules → Inside → List ℕ → (List ℕ → Type 0) → Type 0
 Insides rules (parts ps) w After = Parts rules ps w After
@@ -70,15 +70,15 @@ Insides rules (tag_of context type below) w After = Tagged rules (head_context c
 abbrev pub Body : Rules → ℕ → List ℕ → Type 0
 Body rules from w = (fs : WireFields) × FieldsBy rules MAX_DEPTH from fs w []
 
-abbrev pub body_behind : Rules → WireType → ℕ → List ℕ → Type 0
-body_behind rules type tag w = Parts rules (contents MAX_DEPTH type []) w (Body rules (tag + 1))
+abbrev pub body_after : Rules → WireType → ℕ → List ℕ → Type 0
+body_after rules type tag w = Parts rules (contents MAX_DEPTH type []) w (Body rules (tag + 1))
 
 abbrev pub Language : Rules → State → List ℕ → Type 0
 Language rules (within inside from) w = Insides rules inside w (Body rules from)
-Language rules (body_tag from type) w = Tagged rules (heads.Body from) type (body_behind rules) w
+Language rules (body_tag from type) w = Tagged rules (heads.Body from) type (body_after rules) w
 
 -- a head that may stand in a context, and what comes after it
-pub record Form (rules : Rules) (context : HeadContext) (w : List ℕ) (Behind : WireType → ℕ → List ℕ → Type 0) : Type 0 where
+pub record Form (rules : Rules) (context : HeadContext) (w : List ℕ) (Following : WireType → ℕ → List ℕ → Type 0) : Type 0 where
   pub type : WireType
   pub tag : ℕ
   pub rest : List ℕ
@@ -87,10 +87,10 @@ pub record Form (rules : Rules) (context : HeadContext) (w : List ℕ) (Behind :
   pub tag_fits : tag_fault rules context type tag ≡ None
   pub not_full : is_full rules context type ≡ false
   pub not_deep : is_deep rules context type ≡ false
-  pub behind : Behind type tag rest
+  pub following : Following type tag rest
 
 -- the same, by what the first byte says
 abbrev pub Said : Rules → HeadContext → (WireType → ℕ → List ℕ → Type 0) → Result FirstByte WireWhy → List ℕ → Type 0
-Said rules context Behind (Ok (first.Whole head)) w = Behind head.kind head.tag w
-Said rules context Behind (Ok (first.Long type)) w = Tagged rules context type Behind w
-Said rules context Behind (Err fault) w = ⊥
+Said rules context Following (Ok (first.Whole head)) w = Following head.kind head.tag w
+Said rules context Following (Ok (first.Long type)) w = Tagged rules context type Following w
+Said rules context Following (Err fault) w = ⊥

@@ -3,7 +3,7 @@ use Rattle.std.proofs.Common.{◌⊎◌, inl, inr, ◌≡◌, ◌<◌, ◌≤◌
 use Rattle.std.specs.Prelude.{◌||◌}
 use Rattle.std.proofs.lemmas.Bool.{lt-ltb, le-ltb, ltb-true, ltb-false}
 use Rattle.wire_words.specs.Tree.{whole, zero_tag, WireValues, no_values, value, WirePairs, no_pairs, pair, no_fields}
-use Rattle.longest_front.specs.Machine.{Goes, Ends, Reads}
+use Rattle.longest_prefix.specs.Machine.{Goes, Ends, Reads}
 use Rattle.tars_wire.specs.declared.wire_type.WireType.{WireType}
 use Rattle.tars_wire.specs.declared.wire_type.WireType.TheVariants as wire
 use Rattle.tars_wire.specs.declared.wire_fault.WireWhy.{WireWhy}
@@ -15,10 +15,10 @@ use Rattle.tars_wire.specs.declared.head.FirstByte.TheVariants as first
 use Rattle.tars_wire.specs.Heads.{MAX_DEPTH, is_end, Head, short}
 use Rattle.tars_wire.specs.Spelled.{Rules, FixedHead, is_zero_tag, is_whole, ValuesBy, no_more_values, one_value, PairsBy, no_more_pairs, one_pair, no_more_fields}
 use Rattle.tars_wire.specs.MachineSteps.{negative, wrong_tag, order_fault, tag_fault, unless, first_byte, Kind, of_bytes, of_values, of_pairs, Context, in_struct, an_element, a_key, its_value, a_size, simple_head, head_context, Part, raw, size_first, size_later, head_of, counted, contents, after, Inside, parts, tag_of, head_step, part_step, tag_step, State, within, body_tag, lift_step, body_step, step, may_end}
-use Rattle.tars_wire.proofs.Machine.Meaning.{Run, Counted, Later, Sized, Awaits, Parts, Insides, Body, body_behind, Language, Form, Said}
+use Rattle.tars_wire.proofs.Machine.Meaning.{Run, Counted, Later, Sized, Awaits, Parts, Insides, Body, body_after, Language, Form, Said}
 use Rattle.tars_wire.proofs.Machine.FirstBytes.{said, unsaid}
 use Rattle.tars_wire.proofs.Machine.Counts.{counted_there, counted_back}
-use Rattle.tars_wire.proofs.Machine.Contexts.{Behind, context_form, form_context, body_form, form_body}
+use Rattle.tars_wire.proofs.Machine.Contexts.{Following, context_form, form_context, body_form, form_body}
 
 abbrev pub IsByte : ℕ → Type 0
 IsByte byte = byte < 256
@@ -27,13 +27,13 @@ IsByte byte = byte < 256
 abbrev pub Inner : Rules → (List ℕ → Type 0) → Inside → List ℕ → Type 0
 Inner rules After inside w = Insides rules inside w After
 
-head_there : (rules : Rules) (context : Context) (below : List Part) (After : List ℕ → Type 0) (r : Result FirstByte WireWhy) (w : List ℕ) → Said rules (head_context context) (Behind rules context below After) r w → Goes (Inner rules After) (head_step context below r) w
+head_there : (rules : Rules) (context : Context) (below : List Part) (After : List ℕ → Type 0) (r : Result FirstByte WireWhy) (w : List ℕ) → Said rules (head_context context) (Following rules context below After) r w → Goes (Inner rules After) (head_step context below r) w
 head_there rules context below After (Ok (first.Whole head)) w x = x
 head_there rules context below After (Ok (first.Long type)) [] x = x
 head_there rules context below After (Ok (first.Long type)) (tag ∷ w) x = x
 head_there rules context below After (Err fault) w x = x
 
-head_back : (rules : Rules) (context : Context) (below : List Part) (After : List ℕ → Type 0) (r : Result FirstByte WireWhy) (w : List ℕ) → Goes (Inner rules After) (head_step context below r) w → Said rules (head_context context) (Behind rules context below After) r w
+head_back : (rules : Rules) (context : Context) (below : List Part) (After : List ℕ → Type 0) (r : Result FirstByte WireWhy) (w : List ℕ) → Goes (Inner rules After) (head_step context below r) w → Said rules (head_context context) (Following rules context below After) r w
 head_back rules context below After (Ok (first.Whole head)) w x = x
 head_back rules context below After (Ok (first.Long type)) [] x = x
 head_back rules context below After (Ok (first.Long type)) (tag ∷ w) x = x
@@ -66,7 +66,7 @@ part_there rules (size_first kind (suc more)) below byte w After x = small rules
 part_there rules (size_later kind zero so_far) below byte w After x = counted_there rules kind (so_far * 256 + byte) w below After x.1
 part_there rules (size_later kind (suc more) so_far) below byte w After x = x.1
 part_there rules (head_of context) below byte w After x =
-    head_there rules context below After (first_byte rules (head_context context) byte) w (said rules (head_context context) byte w (Behind rules context below After) (context_form rules context (byte ∷ w) below After x))
+    head_there rules context below After (first_byte rules (head_context context) byte) w (said rules (head_context context) byte w (Following rules context below After) (context_form rules context (byte ∷ w) below After x))
 
 part_back : (rules : Rules) (part : Part) (below : List Part) (byte : ℕ) (w : List ℕ) (After : List ℕ → Type 0) → byte < 256 → Goes (Inner rules After) (part_step rules part below byte) w → Parts rules (part ∷ below) (byte ∷ w) After
 part_back rules (raw zero) below byte w After fits x = (fits, x)
@@ -77,7 +77,7 @@ part_back rules (size_first kind (suc more)) below byte w After fits x = small_b
 part_back rules (size_later kind zero so_far) below byte w After fits x = (fits, counted_back rules kind (so_far * 256 + byte) w below After x)
 part_back rules (size_later kind (suc more) so_far) below byte w After fits x = (fits, x)
 part_back rules (head_of context) below byte w After fits x =
-    form_context rules context (byte ∷ w) below After (unsaid rules (head_context context) byte w (Behind rules context below After) fits (head_back rules context below After (first_byte rules (head_context context) byte) w x))
+    form_context rules context (byte ∷ w) below After (unsaid rules (head_context context) byte w (Following rules context below After) fits (head_back rules context below After (first_byte rules (head_context context) byte) w x))
 
 -- a tag in a byte of its own
 pub unless_there : {X : Type 0} (L : X → List ℕ → Type 0) (fault : Option WireWhy) (to : X) (w : List ℕ) → fault ≡ None → L to w → Goes L (unless fault to) w
@@ -95,20 +95,20 @@ lift_back : (rules : Rules) (from : ℕ) (r : Result Inside WireWhy) (w : List �
 lift_back rules from (Ok inside) w x = x
 lift_back rules from (Err fault) w x = x
 
-body_there : (rules : Rules) (from : ℕ) (r : Result FirstByte WireWhy) (w : List ℕ) → Said rules (heads.Body from) (body_behind rules) r w → Goes (Language rules) (body_step from r) w
+body_there : (rules : Rules) (from : ℕ) (r : Result FirstByte WireWhy) (w : List ℕ) → Said rules (heads.Body from) (body_after rules) r w → Goes (Language rules) (body_step from r) w
 body_there rules from (Ok (first.Whole head)) w x = x
 body_there rules from (Ok (first.Long type)) [] x = x
 body_there rules from (Ok (first.Long type)) (tag ∷ w) x = x
 body_there rules from (Err fault) w x = x
 
-body_back : (rules : Rules) (from : ℕ) (r : Result FirstByte WireWhy) (w : List ℕ) → Goes (Language rules) (body_step from r) w → Said rules (heads.Body from) (body_behind rules) r w
+body_back : (rules : Rules) (from : ℕ) (r : Result FirstByte WireWhy) (w : List ℕ) → Goes (Language rules) (body_step from r) w → Said rules (heads.Body from) (body_after rules) r w
 body_back rules from (Ok (first.Whole head)) w x = x
 body_back rules from (Ok (first.Long type)) [] x = x
 body_back rules from (Ok (first.Long type)) (tag ∷ w) x = x
 body_back rules from (Err fault) w x = x
 
 goes_there : (rules : Rules) (state : State) (byte : ℕ) (w : List ℕ) → Language rules state (byte ∷ w) → Goes (Language rules) (step rules state byte) w
-goes_there rules (within (parts []) from) byte w x = body_there rules from (first_byte rules (heads.Body from) byte) w (said rules (heads.Body from) byte w (body_behind rules) (body_form rules x.1))
+goes_there rules (within (parts []) from) byte w x = body_there rules from (first_byte rules (heads.Body from) byte) w (said rules (heads.Body from) byte w (body_after rules) (body_form rules x.1))
 goes_there rules (within (parts (part ∷ below)) from) byte w x = lift_there rules from (part_step rules part below byte) w (part_there rules part below byte w (Body rules from) x)
 goes_there rules (within (tag_of context type below) from) byte w x =
     lift_there rules from (tag_step rules context type below byte) w (unless_there (Inner rules (Body rules from)) (tag_fault rules (head_context context) type byte) (parts (after context byte type below)) w x.1 x.2)
@@ -116,7 +116,7 @@ goes_there rules (body_tag from type) byte w x =
     unless_there (Language rules) (tag_fault rules (heads.Body from) type byte) (within (parts (contents MAX_DEPTH type [])) (byte + 1)) w x.1 x.2
 
 goes_back : (rules : Rules) (state : State) (byte : ℕ) (w : List ℕ) → IsByte byte → Goes (Language rules) (step rules state byte) w → Language rules state (byte ∷ w)
-goes_back rules (within (parts []) from) byte w fits x = form_body rules from (byte ∷ w) (unsaid rules (heads.Body from) byte w (body_behind rules) fits (body_back rules from (first_byte rules (heads.Body from) byte) w x))
+goes_back rules (within (parts []) from) byte w fits x = form_body rules from (byte ∷ w) (unsaid rules (heads.Body from) byte w (body_after rules) fits (body_back rules from (first_byte rules (heads.Body from) byte) w x))
 goes_back rules (within (parts (part ∷ below)) from) byte w fits x = part_back rules part below byte w (Body rules from) fits (lift_back rules from (part_step rules part below byte) w x)
 goes_back rules (within (tag_of context type below) from) byte w fits x =
     let t = unless_back (Inner rules (Body rules from)) (tag_fault rules (head_context context) type byte) (parts (after context byte type below)) w (lift_back rules from (tag_step rules context type below byte) w x) in
@@ -158,7 +158,7 @@ later_fill rules kind (suc more) so_far After w a = let t = later_fill rules kin
 sized_fill : (rules : Rules) (kind : Kind) (After : List ℕ → Type 0) (w : List ℕ) → After w → (u : List ℕ) × Sized rules kind u After
 sized_fill rules kind After w a =
     let t = counted_fill rules kind 0 After w a in
-    (12 ∷ t.0, (0, t.0, record { type = wire.ZeroTag; number = zero_tag; behind = t.0; head = fixed rules.fixed_tags (short refl (lit< tt)); contents = is_zero_tag; size = refl }, t.1))
+    (12 ∷ t.0, (0, t.0, record { type = wire.ZeroTag; number = zero_tag; following = t.0; head = fixed rules.fixed_tags (short refl (lit< tt)); contents = is_zero_tag; size = refl }, t.1))
 
 part_fill : (rules : Rules) (part : Part) (After : List ℕ → Type 0) (w : List ℕ) → After w → (u : List ℕ) × Awaits rules part u After
 part_fill rules (raw more) After w a = run_fill (suc more) After w a

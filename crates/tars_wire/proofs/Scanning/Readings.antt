@@ -320,9 +320,9 @@ one_value_more room n w =
     ∙ (bind_same (head_at (heads.Item 0 room) w) (λ h. reading (parts (contents room h.0.kind (counted (of_values room) n []))) h.1) (λ h. contents_at room h.0.kind h.1 >>= counted_at (of_values room) n) (λ h. reading_contents room h.0.kind (counted (of_values room) n []) h.1)
     ∙ sym (bind_assoc (head_at (heads.Item 0 room) w) (λ h. contents_at room h.0.kind h.1) (counted_at (of_values room) n)))
 
-value_behind : (room n : ℕ) (w : List ℕ) → reading (parts (head_of (its_value n room) ∷ [])) w ≡ item_at 1 room w >>= counted_at (of_pairs room) n
+value_after : (room n : ℕ) (w : List ℕ) → reading (parts (head_of (its_value n room) ∷ [])) w ≡ item_at 1 room w >>= counted_at (of_pairs room) n
 unfolding counted_at item_at
-value_behind room n w =
+value_after room n w =
     reading_head (its_value n room) [] w
     ∙ (bind_same (head_at (heads.Item 1 room) w) (λ h. reading (parts (contents room h.0.kind (counted (of_pairs room) n []))) h.1) (λ h. contents_at room h.0.kind h.1 >>= counted_at (of_pairs room) n) (λ h. reading_contents room h.0.kind (counted (of_pairs room) n []) h.1)
     ∙ sym (bind_assoc (head_at (heads.Item 1 room) w) (λ h. contents_at room h.0.kind h.1) (counted_at (of_pairs room) n)))
@@ -331,7 +331,7 @@ pub one_pair_more : (room n : ℕ) (w : List ℕ) → counted_at (of_pairs room)
 unfolding counted_at pair_at item_at
 one_pair_more room n w =
     reading_head (a_key n room) [] w
-    ∙ (bind_same (head_at (heads.Item 0 room) w) (λ h. reading (parts (contents room h.0.kind (head_of (its_value n room) ∷ []))) h.1) (λ h. contents_at room h.0.kind h.1 >>= (λ v. item_at 1 room v >>= counted_at (of_pairs room) n)) (λ h. reading_contents room h.0.kind (head_of (its_value n room) ∷ []) h.1 ∙ bind_same (contents_at room h.0.kind h.1) (λ v. reading (parts (head_of (its_value n room) ∷ [])) v) (λ v. item_at 1 room v >>= counted_at (of_pairs room) n) (value_behind room n))
+    ∙ (bind_same (head_at (heads.Item 0 room) w) (λ h. reading (parts (contents room h.0.kind (head_of (its_value n room) ∷ []))) h.1) (λ h. contents_at room h.0.kind h.1 >>= (λ v. item_at 1 room v >>= counted_at (of_pairs room) n)) (λ h. reading_contents room h.0.kind (head_of (its_value n room) ∷ []) h.1 ∙ bind_same (contents_at room h.0.kind h.1) (λ v. reading (parts (head_of (its_value n room) ∷ [])) v) (λ v. item_at 1 room v >>= counted_at (of_pairs room) n) (value_after room n))
     ∙ (sym (bind_assoc (head_at (heads.Item 0 room) w) (λ h. contents_at room h.0.kind h.1) (λ v. item_at 1 room v >>= counted_at (of_pairs room) n))
     ∙ sym (bind_assoc (item_at 0 room w) (item_at 1 room) (counted_at (of_pairs room) n))))
 

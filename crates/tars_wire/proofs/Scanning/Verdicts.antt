@@ -1,7 +1,7 @@
 -- What reading a body gives is the verdict on its bytes.
 use Rattle.std.proofs.Common.{◌≡◌, ◌<◌, ◌≤◌, ℕ, suc, ◌+◌, ◌-◌, Bool, true, false, cond, List, [], ◌∷◌, length, get_or, Option, Some, None, Result, Ok, Err, refl, ap, ◌∙◌, subst, arith}
 use Rattle.std.specs.List.{AllByRecursion}
-use Rattle.longest_front.specs.Machine.{Course, taken, stopped, one_later, ended, run}
+use Rattle.longest_prefix.specs.Machine.{Course, taken, stopped, one_later, ended, run}
 use Rattle.tars_wire.specs.declared.wire_fault.WireWhy.{WireWhy}
 use Rattle.tars_wire.specs.declared.wire_fault.WireWhy.TheVariants as why
 use Rattle.tars_wire.specs.declared.stop.Stop.{Stop}

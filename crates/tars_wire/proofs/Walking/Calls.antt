@@ -26,59 +26,59 @@ module _ (bytes : List ℕ) (here : Level) (outer : List Level) (depth : ℕ) {s
     head_asked = head_needs (MAX_DEPTH - depth) here (levels_around outer depth) asked.next.left bytes asked.head (spelled asked.next.left asked.next.is_left) asked.next.is_next
 
   -- a call that reads a value
-  module _ {A : Type 0} (r : Reading A) (asked : NextIs self r.sort) (read : ReadHead) (behind : List ℕ) (is_read : head_prefix bytes ≡ Some (read, behind)) where
-    pub value_needs : IsSome (r.prefix read.kind behind)
-    value_needs = needs r (MAX_DEPTH - depth) here (levels_around outer depth) asked.next.left bytes asked.head (spelled asked.next.left asked.next.is_left) asked.next.is_next asked.is_sort read behind is_read
+  module _ {A : Type 0} (r : Reading A) (asked : NextIs self r.sort) (read : ReadHead) (following : List ℕ) (is_read : head_prefix bytes ≡ Some (read, following)) where
+    pub value_needs : IsSome (r.prefix read.kind following)
+    value_needs = needs r (MAX_DEPTH - depth) here (levels_around outer depth) asked.next.left bytes asked.head (spelled asked.next.left asked.next.is_left) asked.next.is_next asked.is_sort read following is_read
 
-    module _ (x : A) (rest : List ℕ) (got : r.prefix read.kind behind ≡ Some (x, rest)) where
+    module _ (x : A) (rest : List ℕ) (got : r.prefix read.kind following ≡ Some (x, rest)) where
       pub value_told : (other : List Remaining) → IsLeft self other → of_next r.inside (next_of other) ≡ Some x
       value_told other y =
-          tells r (MAX_DEPTH - depth) here (levels_around outer depth) asked.next.left bytes asked.head (spelled asked.next.left asked.next.is_left) asked.next.is_next asked.is_sort read behind is_read x rest got other (spelled other y)
+          tells r (MAX_DEPTH - depth) here (levels_around outer depth) asked.next.left bytes asked.head (spelled asked.next.left asked.next.is_left) asked.next.is_next asked.is_sort read following is_read x rest got other (spelled other y)
 
       pub value_left : (level : Level) → level ≡ less here → (other : List Remaining) → IsLeft self other → Left (MAX_DEPTH - depth) (level ∷ levels_around outer depth) (skipped other) rest
       value_left level e other y =
-          rw e (leaves r (MAX_DEPTH - depth) here (levels_around outer depth) asked.next.left bytes asked.head (spelled asked.next.left asked.next.is_left) asked.next.is_next asked.is_sort read behind is_read x rest got other (spelled other y))
+          rw e (leaves r (MAX_DEPTH - depth) here (levels_around outer depth) asked.next.left bytes asked.head (spelled asked.next.left asked.next.is_left) asked.next.is_next asked.is_sort read following is_read x rest got other (spelled other y))
 
       pub value_stands : (level : Level) → level ≡ less here → depth ≤ MAX_DEPTH → Stands rest level outer depth
       value_stands level e deep = record { deep = deep; left = skipped asked.next.left; spelled = value_left level e asked.next.left asked.next.is_left }
 
   -- a call that goes past a value
-  module _ {sort : WireType → Bool} (asked : NextIs self sort) (read : ReadHead) (behind : List ℕ) (is_read : head_prefix bytes ≡ Some (read, behind)) where
+  module _ {sort : WireType → Bool} (asked : NextIs self sort) (read : ReadHead) (following : List ℕ) (is_read : head_prefix bytes ≡ Some (read, following)) where
     pub skip_room : IsTrue (opens read.kind) → 0 < MAX_DEPTH - depth
-    skip_room = has_room (MAX_DEPTH - depth) here (levels_around outer depth) asked.next.left bytes asked.head (spelled asked.next.left asked.next.is_left) asked.next.is_next read behind is_read
+    skip_room = has_room (MAX_DEPTH - depth) here (levels_around outer depth) asked.next.left bytes asked.head (spelled asked.next.left asked.next.is_left) asked.next.is_next read following is_read
 
-    pub skip_needs : IsOk (contents_at (MAX_DEPTH - depth) read.kind behind)
-    skip_needs = can_pass (MAX_DEPTH - depth) here (levels_around outer depth) asked.next.left bytes asked.head (spelled asked.next.left asked.next.is_left) asked.next.is_next read behind is_read
+    pub skip_needs : IsOk (contents_at (MAX_DEPTH - depth) read.kind following)
+    skip_needs = can_pass (MAX_DEPTH - depth) here (levels_around outer depth) asked.next.left bytes asked.head (spelled asked.next.left asked.next.is_left) asked.next.is_next read following is_read
 
-    module _ (rest : List ℕ) (got : contents_at (MAX_DEPTH - depth) read.kind behind ≡ Ok rest) where
+    module _ (rest : List ℕ) (got : contents_at (MAX_DEPTH - depth) read.kind following ≡ Ok rest) where
       pub skip_left : (level : Level) → level ≡ less here → (other : List Remaining) → IsLeft self other → Left (MAX_DEPTH - depth) (level ∷ levels_around outer depth) (skipped other) rest
       skip_left level e other y =
-          rw e (skips (MAX_DEPTH - depth) here (levels_around outer depth) asked.next.left bytes asked.head (spelled asked.next.left asked.next.is_left) asked.next.is_next read behind is_read rest got other (spelled other y))
+          rw e (skips (MAX_DEPTH - depth) here (levels_around outer depth) asked.next.left bytes asked.head (spelled asked.next.left asked.next.is_left) asked.next.is_next read following is_read rest got other (spelled other y))
 
       pub skip_stands : (level : Level) → level ≡ less here → depth ≤ MAX_DEPTH → Stands rest level outer depth
       skip_stands level e deep = record { deep = deep; left = skipped asked.next.left; spelled = skip_left level e asked.next.left asked.next.is_left }
 
   -- a call that goes into a value
-  module _ (asked : NextIs self opens) (read : ReadHead) (behind : List ℕ) (is_read : head_prefix bytes ≡ Some (read, behind)) where
-    pub level_needs : IsSome (entered_prefix read.kind behind)
-    level_needs = enter_needs (MAX_DEPTH - depth) here (levels_around outer depth) asked.next.left bytes asked.head (spelled asked.next.left asked.next.is_left) asked.next.is_next asked.is_sort read behind is_read
+  module _ (asked : NextIs self opens) (read : ReadHead) (following : List ℕ) (is_read : head_prefix bytes ≡ Some (read, following)) where
+    pub level_needs : IsSome (entered_prefix read.kind following)
+    level_needs = enter_needs (MAX_DEPTH - depth) here (levels_around outer depth) asked.next.left bytes asked.head (spelled asked.next.left asked.next.is_left) asked.next.is_next asked.is_sort read following is_read
 
     pub level_room : 0 < MAX_DEPTH - depth
-    level_room = enter_room (MAX_DEPTH - depth) here (levels_around outer depth) asked.next.left bytes asked.head (spelled asked.next.left asked.next.is_left) asked.next.is_next asked.is_sort read behind is_read
+    level_room = enter_room (MAX_DEPTH - depth) here (levels_around outer depth) asked.next.left bytes asked.head (spelled asked.next.left asked.next.is_left) asked.next.is_next asked.is_sort read following is_read
 
     pub two_entered : 2 ≤ length (entered asked.next.left)
     two_entered = enters_two (MAX_DEPTH - depth) (here ∷ levels_around outer depth) asked.next.left bytes asked.head (spelled asked.next.left asked.next.is_left) asked.next.is_next
 
-    module _ (inside : Level) (size : ℕ) (rest : List ℕ) (got : entered_prefix read.kind behind ≡ Some (inside, size, rest)) where
+    module _ (inside : Level) (size : ℕ) (rest : List ℕ) (got : entered_prefix read.kind following ≡ Some (inside, size, rest)) where
       pub size_told : (other : List Remaining) → IsLeft self other → of_next size_in (next_of other) ≡ Some size
       size_told other y =
-          sizes (MAX_DEPTH - depth) here (levels_around outer depth) asked.next.left bytes asked.head (spelled asked.next.left asked.next.is_left) asked.next.is_next asked.is_sort read behind is_read inside size rest got other (spelled other y)
+          sizes (MAX_DEPTH - depth) here (levels_around outer depth) asked.next.left bytes asked.head (spelled asked.next.left asked.next.is_left) asked.next.is_next asked.is_sort read following is_read inside size rest got other (spelled other y)
 
       pub level_left : (kept : Level) → kept ≡ less here → MAX_DEPTH ≤ length outer → (other : List Remaining) → IsLeft self other → Left (MAX_DEPTH - (depth + 1)) (inside ∷ levels_around (set outer depth kept) (depth + 1)) (entered other) rest
       level_left kept e wide other y =
           let room = level_room in
           entered_at outer depth kept here inside (entered other) rest (omega arith) (omega arith) e
-          (enters (MAX_DEPTH - depth) here (levels_around outer depth) asked.next.left bytes asked.head (spelled asked.next.left asked.next.is_left) asked.next.is_next asked.is_sort read behind is_read inside size rest got other (spelled other y))
+          (enters (MAX_DEPTH - depth) here (levels_around outer depth) asked.next.left bytes asked.head (spelled asked.next.left asked.next.is_left) asked.next.is_next asked.is_sort read following is_read inside size rest got other (spelled other y))
 
       pub level_stands : (kept : Level) → kept ≡ less here → MAX_DEPTH ≤ length outer → Stands rest inside (set outer depth kept) (depth + 1)
       level_stands kept e wide =

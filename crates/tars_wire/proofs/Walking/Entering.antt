@@ -40,12 +40,12 @@ pub record Opens (room : ℕ) (v : WireValue) (type : WireType) (w rest : List �
 
 pub opens_of : {room : ℕ} {type : WireType} {v : WireValue} {w rest : List ℕ} → Contents room type v w rest → opens type ≡ true → Opens room v type w rest
 unfolding entered_prefix
-opens_of (is_list {n = n} {values = vs} {behind = behind} some size values) e =
-    record { here = level.List n; size = n; mid = behind; prefix = rw (size_prefix_is size) refl; inside = values; is_size = ap (λ k. Some k) (values_count values); some = some }
-opens_of (is_map {n = n} {pairs = ps} {behind = behind} some size pairs) e =
-    record { here = level.Map (2 * n); size = n; mid = behind; prefix = rw (size_prefix_is size) refl; inside = (n, (let f : 2 * n ≡ n + n = omega arith in f), pairs); is_size = ap (λ k. Some k) (pairs_count pairs); some = some }
-opens_of (is_struct {input = w} {behind = behind} some fields head) e =
-    record { here = level.Struct; size = 0; mid = w; prefix = refl; inside = (0, behind, fields, head); is_size = refl; some = some }
+opens_of (is_list {n = n} {values = vs} {following = following} some size values) e =
+    record { here = level.List n; size = n; mid = following; prefix = rw (size_prefix_is size) refl; inside = values; is_size = ap (λ k. Some k) (values_count values); some = some }
+opens_of (is_map {n = n} {pairs = ps} {following = following} some size pairs) e =
+    record { here = level.Map (2 * n); size = n; mid = following; prefix = rw (size_prefix_is size) refl; inside = (n, (let f : 2 * n ≡ n + n = omega arith in f), pairs); is_size = ap (λ k. Some k) (pairs_count pairs); some = some }
+opens_of (is_struct {input = w} {following = following} some fields head) e =
+    record { here = level.Struct; size = 0; mid = w; prefix = refl; inside = (0, following, fields, head); is_size = refl; some = some }
 opens_of (is_whole {number = n} number) e = absurd (false_true (sym (ap opens (number_type number) ∙ of_no_number opens (refl, refl, refl, refl, refl) n) ∙ e))
 opens_of (is_float b f) e = absurd (false_true e)
 opens_of (is_double b f) e = absurd (false_true e)
@@ -71,25 +71,25 @@ found_level a b m n x y e = (ap first e, ap second e, ap third e)
 
 module _ (room : ℕ) (l : Level) (levels : List Level) (left : List Remaining) (w : List ℕ) (h : ReadHead)
     (spelled : Left room (l ∷ levels) left w) (is_next : head_left left ≡ Some h) (is_sort : opens h.kind ≡ true)
-    (read : ReadHead) (behind : List ℕ) (is_read : head_prefix w ≡ Some (read, behind)) where
+    (read : ReadHead) (following : List ℕ) (is_read : head_prefix w ≡ Some (read, following)) where
   the_turn : Turn room l levels left w h
   the_turn = turn room l levels left w h spelled is_next
 
-  the_opens : Opens room the_turn.v h.kind the_turn.behind the_turn.mid
+  the_opens : Opens room the_turn.v h.kind the_turn.following the_turn.mid
   the_opens = opens_of the_turn.contents is_sort
 
-  the_prefix : entered_prefix read.kind behind ≡ Some (the_opens.here, the_opens.size, the_opens.mid)
+  the_prefix : entered_prefix read.kind following ≡ Some (the_opens.here, the_opens.size, the_opens.mid)
   the_prefix =
-      ap (λ (k : ReadHead). entered_prefix k.kind behind) (found_first read h behind the_turn.behind (sym is_read ∙ the_turn.prefix))
-      ∙ (ap (entered_prefix h.kind) (found_second read h behind the_turn.behind (sym is_read ∙ the_turn.prefix)) ∙ the_opens.prefix)
+      ap (λ (k : ReadHead). entered_prefix k.kind following) (found_first read h following the_turn.following (sym is_read ∙ the_turn.prefix))
+      ∙ (ap (entered_prefix h.kind) (found_second read h following the_turn.following (sym is_read ∙ the_turn.prefix)) ∙ the_opens.prefix)
 
-  pub enter_needs : IsSome (entered_prefix read.kind behind)
+  pub enter_needs : IsSome (entered_prefix read.kind following)
   enter_needs = rw the_prefix refl
 
   pub enter_room : 0 < room
   enter_room = the_opens.some
 
-  module _ (here : Level) (size : ℕ) (rest : List ℕ) (got : entered_prefix read.kind behind ≡ Some (here, size, rest)) where
+  module _ (here : Level) (size : ℕ) (rest : List ℕ) (got : entered_prefix read.kind following ≡ Some (here, size, rest)) where
     same_parts : (the_opens.here ≡ here) × (the_opens.size ≡ size) × (the_opens.mid ≡ rest)
     same_parts = found_level the_opens.here here the_opens.size size the_opens.mid rest (sym the_prefix ∙ got)
 

@@ -9,7 +9,7 @@ use Rattle.tars_wire.specs.declared.level.Level.{Level}
 use Rattle.tars_wire.specs.declared.level.Level.TheVariants as level
 use Rattle.tars_wire.specs.Heads.{is_end, Head, short, long}
 use Rattle.tars_wire.specs.Spelled.{Contents, Values, no_more_values, one_value, Pairs, no_more_pairs, one_pair, Fields, no_more_fields, one_field}
-use Rattle.tars_wire.specs.Left.{Remaining, fields_left, values_left, pairs_left, value_left, next_field, behind_next, type_of_value, next_of, head_in, head_left, skipped, LevelLeft, Left}
+use Rattle.tars_wire.specs.Left.{Remaining, fields_left, values_left, pairs_left, value_left, next_field, after_next, type_of_value, next_of, head_in, head_left, skipped, LevelLeft, Left}
 use Rattle.tars_wire.specs.PrefixSteps.{head_prefix, less, HasMore, is_over}
 use Rattle.tars_wire.proofs.Grammar.Types.{value_type, no_end}
 use Rattle.tars_wire.proofs.Walking.Prefixes.{head_prefix_is}
@@ -17,10 +17,10 @@ use Rattle.tars_wire.proofs.TestLemmas.{false_true}
 
 -- a field that begins the bytes, and what is left after it
 pub record OneField (room : ℕ) (l : Level) (inner : Remaining) (w rest : List ℕ) (tag : ℕ) (v : WireValue) : Type 0 where
-  pub behind : List ℕ
+  pub following : List ℕ
   pub mid : List ℕ
-  pub head : Head tag (type_of_value v) w behind
-  pub contents : Contents room (type_of_value v) v behind mid
+  pub head : Head tag (type_of_value v) w following
+  pub contents : Contents room (type_of_value v) v following mid
   pub after : LevelLeft room (less l) inner mid rest
   pub more : HasMore l
 
@@ -33,16 +33,16 @@ AtEnd (level.Map n) w rest = (n ≡ 0) × (w ≡ rest)
 
 abbrev pub OneOf : ℕ → Level → Remaining → List ℕ → List ℕ → Option (ℕ × WireValue) → Type 0
 OneOf room l inner w rest None = AtEnd l w rest
-OneOf room l inner w rest (Some next) = OneField room l (behind_next inner) w rest next.0 next.1
+OneOf room l inner w rest (Some next) = OneField room l (after_next inner) w rest next.0 next.1
 
-made : {room tag : ℕ} {type : WireType} {l : Level} {v : WireValue} {w behind mid rest : List ℕ} (inner : Remaining) → Head tag type w behind → Contents room type v behind mid → LevelLeft room (less l) inner mid rest → HasMore l → OneField room l inner w rest tag v
-made {room} {tag} {type} {l} {v} {w} {behind} {mid} {rest} inner head contents after more =
+made : {room tag : ℕ} {type : WireType} {l : Level} {v : WireValue} {w following mid rest : List ℕ} (inner : Remaining) → Head tag type w following → Contents room type v following mid → LevelLeft room (less l) inner mid rest → HasMore l → OneField room l inner w rest tag v
+made {room} {tag} {type} {l} {v} {w} {following} {mid} {rest} inner head contents after more =
     let e = value_type contents in
     record {
-      behind = behind;
+      following = following;
       mid = mid;
-      head = subst (λ (t : WireType). Head tag t w behind) e head;
-      contents = subst (λ (t : WireType). Contents room t v behind mid) e contents;
+      head = subst (λ (t : WireType). Head tag t w following) e head;
+      contents = subst (λ (t : WireType). Contents room t v following mid) e contents;
       after = after;
       more = more;
     }
@@ -66,10 +66,10 @@ list_one {rest = rest} (one_value {room = room} {n = n} {values = vs} {next = ne
 map_one : {room k : ℕ} {ps : WirePairs} {w rest : List ℕ} (n : ℕ) → n ≡ k + k → Pairs room k ps w rest → OneOf room (level.Map n) (pairs_left ps) w rest (next_field (pairs_left ps))
 unfolding less
 map_one n e no_more_pairs = (omega arith, refl)
-map_one n e (one_pair {n = k} {type = type} {pairs = ps} {mid = mid} {behind = behind} {next = next} key_head key head contents pairs) =
-    made (value_left _ ps) key_head key (k, type, behind, next, (let f : n - 1 ≡ (k + k) + 1 = omega arith in f), head, contents, pairs) (let f : 0 < n = omega arith in f)
+map_one n e (one_pair {n = k} {type = type} {pairs = ps} {mid = mid} {following = following} {next = next} key_head key head contents pairs) =
+    made (value_left _ ps) key_head key (k, type, following, next, (let f : n - 1 ≡ (k + k) + 1 = omega arith in f), head, contents, pairs) (let f : 0 < n = omega arith in f)
 
-value_one : {room k : ℕ} {type : WireType} {v : WireValue} {ps : WirePairs} {w behind next rest : List ℕ} (n : ℕ) → n ≡ (k + k) + 1 → Head 1 type w behind → Contents room type v behind next → Pairs room k ps next rest → OneField room (level.Map n) (pairs_left ps) w rest 1 v
+value_one : {room k : ℕ} {type : WireType} {v : WireValue} {ps : WirePairs} {w following next rest : List ℕ} (n : ℕ) → n ≡ (k + k) + 1 → Head 1 type w following → Contents room type v following next → Pairs room k ps next rest → OneField room (level.Map n) (pairs_left ps) w rest 1 v
 unfolding less
 value_one {k = k} {ps = ps} n e head contents pairs =
     made (pairs_left ps) head contents (k, (let f : n - 1 ≡ k + k = omega arith in f), pairs) (let f : 0 < n = omega arith in f)
@@ -85,8 +85,8 @@ one_of room l inner w rest x = absurd x
 -- ---- whether a field is next
 
 abbrev HeadCase : List ℕ → Option (ℕ × WireValue) → Type 0
-HeadCase w None = (behind : List ℕ) × (head_prefix w ≡ Some (record { tag = 0; kind = wire.StructEnd }, behind))
-HeadCase w (Some next) = (behind : List ℕ) × (head_prefix w ≡ Some (record { tag = next.0; kind = type_of_value next.1 }, behind))
+HeadCase w None = (following : List ℕ) × (head_prefix w ≡ Some (record { tag = 0; kind = wire.StructEnd }, following))
+HeadCase w (Some next) = (following : List ℕ) × (head_prefix w ≡ Some (record { tag = next.0; kind = type_of_value next.1 }, following))
 
 over_false : (n : ℕ) → n ≡ 0 → eqb n 0 ≡ false → ⊥
 over_false n e f = grind (arith, nat_tests)
@@ -96,7 +96,7 @@ no_length w e = ap length e
 
 head_case : (room : ℕ) (l : Level) (inner : Remaining) (w rest : List ℕ) (o : Option (ℕ × WireValue)) → OneOf room l inner w rest o → is_over l w ≡ false → HeadCase w o
 unfolding is_over
-head_case room l inner w rest (Some next) x e = (x.behind, head_prefix_is x.head)
+head_case room l inner w rest (Some next) x e = (x.following, head_prefix_is x.head)
 head_case room level.Body inner w rest None x e = absurd (over_false (length w) (no_length w x) e)
 head_case room level.Struct inner w rest None x e = (rest, head_prefix_is x)
 head_case room (level.List n) inner w rest None x e = absurd (over_false n x.0 e)
@@ -134,23 +134,23 @@ heads_same a b x y e = ap first_head e
     first_head None = a
     first_head (Some h) = h.0
 
-case_head : (w : List ℕ) (h : ReadHead) (behind : List ℕ) (o : Option (ℕ × WireValue)) → HeadCase w o → head_prefix w ≡ Some (h, behind) → is_end h.kind ≡ false → Some h ≡ head_in o
-case_head w h behind None c e f =
-    let s = heads_same h (record { tag = 0; kind = wire.StructEnd }) behind c.0 (sym e ∙ c.1) in
+case_head : (w : List ℕ) (h : ReadHead) (following : List ℕ) (o : Option (ℕ × WireValue)) → HeadCase w o → head_prefix w ≡ Some (h, following) → is_end h.kind ≡ false → Some h ≡ head_in o
+case_head w h following None c e f =
+    let s = heads_same h (record { tag = 0; kind = wire.StructEnd }) following c.0 (sym e ∙ c.1) in
     absurd (false_true (sym f ∙ ap (λ (x : ReadHead). is_end x.kind) s))
-case_head w h behind (Some next) c e f = ap (λ (x : ReadHead). Some x) (heads_same h (record { tag = next.0; kind = type_of_value next.1 }) behind c.0 (sym e ∙ c.1))
+case_head w h following (Some next) c e f = ap (λ (x : ReadHead). Some x) (heads_same h (record { tag = next.0; kind = type_of_value next.1 }) following c.0 (sym e ∙ c.1))
 
-case_none : (w : List ℕ) (h : ReadHead) (behind : List ℕ) (o : Option (ℕ × WireValue)) → HeadCase w o → head_prefix w ≡ Some (h, behind) → is_end h.kind ≡ true → None ≡ head_in o
-case_none w h behind None c e f = refl
-case_none w h behind (Some next) c e f =
-    let s = heads_same h (record { tag = next.0; kind = type_of_value next.1 }) behind c.0 (sym e ∙ c.1) in
+case_none : (w : List ℕ) (h : ReadHead) (following : List ℕ) (o : Option (ℕ × WireValue)) → HeadCase w o → head_prefix w ≡ Some (h, following) → is_end h.kind ≡ true → None ≡ head_in o
+case_none w h following None c e f = refl
+case_none w h following (Some next) c e f =
+    let s = heads_same h (record { tag = next.0; kind = type_of_value next.1 }) following c.0 (sym e ∙ c.1) in
     absurd (false_true (sym (no_end next.1) ∙ (sym (ap (λ (x : ReadHead). is_end x.kind) s) ∙ f)))
 
-pub head_is_next : (room : ℕ) (l : Level) (inner : Remaining) (w rest : List ℕ) (h : ReadHead) (behind : List ℕ) → is_over l w ≡ false → head_prefix w ≡ Some (h, behind) → is_end h.kind ≡ false → LevelLeft room l inner w rest → Some h ≡ head_in (next_field inner)
-head_is_next room l inner w rest h behind o e f x = case_head w h behind (next_field inner) (head_case room l inner w rest (next_field inner) (one_of room l inner w rest x) o) e f
+pub head_is_next : (room : ℕ) (l : Level) (inner : Remaining) (w rest : List ℕ) (h : ReadHead) (following : List ℕ) → is_over l w ≡ false → head_prefix w ≡ Some (h, following) → is_end h.kind ≡ false → LevelLeft room l inner w rest → Some h ≡ head_in (next_field inner)
+head_is_next room l inner w rest h following o e f x = case_head w h following (next_field inner) (head_case room l inner w rest (next_field inner) (one_of room l inner w rest x) o) e f
 
-pub end_is_next : (room : ℕ) (l : Level) (inner : Remaining) (w rest : List ℕ) (h : ReadHead) (behind : List ℕ) → is_over l w ≡ false → head_prefix w ≡ Some (h, behind) → is_end h.kind ≡ true → LevelLeft room l inner w rest → None ≡ head_in (next_field inner)
-end_is_next room l inner w rest h behind o e f x = case_none w h behind (next_field inner) (head_case room l inner w rest (next_field inner) (one_of room l inner w rest x) o) e f
+pub end_is_next : (room : ℕ) (l : Level) (inner : Remaining) (w rest : List ℕ) (h : ReadHead) (following : List ℕ) → is_over l w ≡ false → head_prefix w ≡ Some (h, following) → is_end h.kind ≡ true → LevelLeft room l inner w rest → None ≡ head_in (next_field inner)
+end_is_next room l inner w rest h following o e f x = case_none w h following (next_field inner) (head_case room l inner w rest (next_field inner) (one_of room l inner w rest x) o) e f
 
 -- ---- one turn: the next field of the innermost level
 
@@ -158,10 +158,10 @@ pub record Turn (room : ℕ) (l : Level) (levels : List Level) (left : List Rema
   pub v : WireValue
   pub next : next_of left ≡ Some (h.tag, v)
   pub type : h.kind ≡ type_of_value v
-  pub behind : List ℕ
+  pub following : List ℕ
   pub mid : List ℕ
-  pub prefix : head_prefix w ≡ Some (h, behind)
-  pub contents : Contents room h.kind v behind mid
+  pub prefix : head_prefix w ≡ Some (h, following)
+  pub contents : Contents room h.kind v following mid
   pub after : Left room (less l ∷ levels) (skipped left) mid
   pub more : HasMore l
 
@@ -174,7 +174,7 @@ turn_of room l levels inner outer w rest (Some next) h n x y e =
     let s = same e in
     let made_head : ReadHead = record { tag = next.0; kind = type_of_value next.1 } in
     subst (λ (k : ReadHead). Turn room l levels (inner ∷ outer) w k) s
-    (record { v = next.1; next = n; type = refl; behind = x.behind; mid = x.mid; prefix = head_prefix_is x.head; contents = x.contents; after = (rest, x.after, y); more = x.more })
+    (record { v = next.1; next = n; type = refl; following = x.following; mid = x.mid; prefix = head_prefix_is x.head; contents = x.contents; after = (rest, x.after, y); more = x.more })
   where
     same : head_in (Some next) ≡ Some h → (let k : ReadHead = record { tag = next.0; kind = type_of_value next.1 } in k) ≡ h
     same e = ap (λ o. got o) e

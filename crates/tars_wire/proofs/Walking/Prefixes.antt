@@ -13,7 +13,7 @@ use Rattle.tars_wire.specs.ScanSteps.{stops_at, reading, contents_at}
 use Rattle.tars_wire.specs.Left.{value_of_number, text_in, simple_in}
 use Rattle.facts.specs.OptionSteps.{◌>>=◌}
 use Rattle.tars_wire.specs.PrefixSteps.{typed_prefix, head_prefix, bytes_prefix, unsigned_prefix, signed_prefix, number_prefix, size_prefix, text_prefix, simple_prefix}
-use Rattle.longest_front.specs.Machine.{Goes}
+use Rattle.longest_prefix.specs.Machine.{Goes}
 use Rattle.tars_wire.proofs.Grammar.Heads.{type_of-code_of, code_below}
 use Rattle.tars_wire.proofs.Machine.Meaning.{Insides}
 use Rattle.tars_wire.proofs.Machine.Steps.{Inner, part_there, part_ends, unless_there}
@@ -97,7 +97,7 @@ unfolding text_prefix
 text_prefix_is text (is_string1 {size = size} {bytes = bytes} {input = w} {rest = rest} fits bs f) e =
     let first : unsigned_prefix w8 (size ∷ w) ≡ Some (size, w) = unsigned_prefix_is w8 (byte fits no_bytes) refl in
     rw (first, prefix_by size bs f) (ap (λ t. t >>= λ b. Some (b, rest)) e)
-text_prefix_is text (is_string4 {size = size} {bytes = bytes} {behind = behind} {rest = rest} s g bs f) e =
+text_prefix_is text (is_string4 {size = size} {bytes = bytes} {following = following} {rest = rest} s g bs f) e =
     rw (unsigned_prefix_is w32 s g, prefix_by (from_be_bytes w32 size) bs f) (ap (λ t. t >>= λ b. Some (b, rest)) e)
 text_prefix_is text (is_whole n) e = absurd (none_some text e)
 text_prefix_is text (is_float bs f) e = absurd (none_some text e)

@@ -95,28 +95,28 @@ pub record Reading (A : Type 0) : Type 0 where
 -- a call that reads a value
 module _ {A : Type 0} (r : Reading A) (room : ℕ) (l : Level) (levels : List Level) (left : List Remaining) (w : List ℕ) (h : ReadHead)
     (spelled : Left room (l ∷ levels) left w) (is_next : head_left left ≡ Some h) (is_sort : r.sort h.kind ≡ true)
-    (read : ReadHead) (behind : List ℕ) (is_read : head_prefix w ≡ Some (read, behind)) where
+    (read : ReadHead) (following : List ℕ) (is_read : head_prefix w ≡ Some (read, following)) where
   the_turn : Turn room l levels left w h
   the_turn = turn room l levels left w h spelled is_next
 
   same_head : read ≡ h
-  same_head = found_first read h behind the_turn.behind (sym is_read ∙ the_turn.prefix)
+  same_head = found_first read h following the_turn.following (sym is_read ∙ the_turn.prefix)
 
-  same_rest : behind ≡ the_turn.behind
-  same_rest = found_second read h behind the_turn.behind (sym is_read ∙ the_turn.prefix)
+  same_rest : following ≡ the_turn.following
+  same_rest = found_second read h following the_turn.following (sym is_read ∙ the_turn.prefix)
 
   the_value : (x : A) × (r.inside the_turn.v ≡ Some x)
   the_value = r.has the_turn.v (sym (ap r.sort the_turn.type) ∙ is_sort)
 
-  the_prefix : r.prefix read.kind behind ≡ Some (the_value.0, the_turn.mid)
+  the_prefix : r.prefix read.kind following ≡ Some (the_value.0, the_turn.mid)
   the_prefix =
-      ap (λ (k : ReadHead). r.prefix k.kind behind) same_head
-      ∙ (ap (r.prefix h.kind) same_rest ∙ r.law room h.kind the_turn.v the_turn.behind the_turn.mid the_value.0 the_turn.contents the_value.1)
+      ap (λ (k : ReadHead). r.prefix k.kind following) same_head
+      ∙ (ap (r.prefix h.kind) same_rest ∙ r.law room h.kind the_turn.v the_turn.following the_turn.mid the_value.0 the_turn.contents the_value.1)
 
-  pub needs : IsSome (r.prefix read.kind behind)
+  pub needs : IsSome (r.prefix read.kind following)
   needs = rw the_prefix refl
 
-  module _ (x : A) (rest : List ℕ) (got : r.prefix read.kind behind ≡ Some (x, rest)) where
+  module _ (x : A) (rest : List ℕ) (got : r.prefix read.kind following ≡ Some (x, rest)) where
     same_x : the_value.0 ≡ x
     same_x = found_first the_value.0 x the_turn.mid rest (sym the_prefix ∙ got)
 
@@ -135,22 +135,22 @@ module _ {A : Type 0} (r : Reading A) (room : ℕ) (l : Level) (levels : List Le
 -- and one that goes past whatever value
 module _ (room : ℕ) (l : Level) (levels : List Level) (left : List Remaining) (w : List ℕ) (h : ReadHead)
     (spelled : Left room (l ∷ levels) left w) (is_next : head_left left ≡ Some h)
-    (read : ReadHead) (behind : List ℕ) (is_read : head_prefix w ≡ Some (read, behind)) where
+    (read : ReadHead) (following : List ℕ) (is_read : head_prefix w ≡ Some (read, following)) where
   a_turn : Turn room l levels left w h
   a_turn = turn room l levels left w h spelled is_next
 
-  passed : contents_at room read.kind behind ≡ Ok a_turn.mid
+  passed : contents_at room read.kind following ≡ Ok a_turn.mid
   passed =
-      ap (λ (k : ReadHead). contents_at room k.kind behind) (found_first read h behind a_turn.behind (sym is_read ∙ a_turn.prefix))
-      ∙ (ap (contents_at room h.kind) (found_second read h behind a_turn.behind (sym is_read ∙ a_turn.prefix)) ∙ contents_complete a_turn.contents)
+      ap (λ (k : ReadHead). contents_at room k.kind following) (found_first read h following a_turn.following (sym is_read ∙ a_turn.prefix))
+      ∙ (ap (contents_at room h.kind) (found_second read h following a_turn.following (sym is_read ∙ a_turn.prefix)) ∙ contents_complete a_turn.contents)
 
-  pub can_pass : IsOk (contents_at room read.kind behind)
+  pub can_pass : IsOk (contents_at room read.kind following)
   can_pass = rw passed refl
 
   pub has_room : IsTrue (opens read.kind) → 0 < room
-  has_room t = room_for (opens h.kind) room (room_left ALL a_turn.contents) (sym (ap (λ (k : ReadHead). opens k.kind) (found_first read h behind a_turn.behind (sym is_read ∙ a_turn.prefix))) ∙ t)
+  has_room t = room_for (opens h.kind) room (room_left ALL a_turn.contents) (sym (ap (λ (k : ReadHead). opens k.kind) (found_first read h following a_turn.following (sym is_read ∙ a_turn.prefix))) ∙ t)
 
-  module _ (rest : List ℕ) (got : contents_at room read.kind behind ≡ Ok rest) where
+  module _ (rest : List ℕ) (got : contents_at room read.kind following ≡ Ok rest) where
     mid_is : a_turn.mid ≡ rest
     mid_is = ok_same a_turn.mid rest (sym passed ∙ got)
       where

@@ -1,6 +1,6 @@
 use Rattle.idl_parse.proofs.Trees.NestingLaws.{nested}
-use Rattle.idl_parse.proofs.Parsing.OneFault.{one_fault}
-use Rattle.idl_parse.proofs.Parsing.ParseSteps.{some_tree, one_file}
+use Rattle.idl_parse.proofs.Parsing.Stopping.OneFault.{one_fault}
+use Rattle.idl_parse.proofs.Parsing.Stopping.ParseSteps.{some_tree, one_file}
 use Rattle.idl_parse.proofs.ast.one_tree.Goals as goal
 
 pub returns-clause-some : goal.returns-clause-some

@@ -1,7 +1,7 @@
 use Rattle.std.proofs.Common.{sym, ◌∙◌, length}
-use Rattle.idl_parse.proofs.Parsing.FileLaws.{file_sound, file_complete, entries_of}
-use Rattle.idl_parse.proofs.Trees.NestingLaws.{file_places}
-use Rattle.idl_parse.proofs.Parsing.ParseSteps.{no_file, true_fault, refused_fault}
+use Rattle.idl_parse.proofs.Parsing.Deriving.FileLaws.{file_sound, file_complete, entries_of}
+use Rattle.idl_parse.proofs.Trees.NestingLaws.{file_spans}
+use Rattle.idl_parse.proofs.Parsing.Stopping.ParseSteps.{no_file, true_fault, refused_fault}
 use Rattle.idl_parse.proofs.ast.parse.Goals as goal
 
 pub returns-in-Err-clause-only : goal.returns-in-Err-clause-only
@@ -24,7 +24,7 @@ returns-clause-only c = λ entries is. entries_of (sym (rw c.new-left.ensures at
 
 pub include_names-requires : goal.include_names-requires
 include_names-requires c =
-    rw c.as_slice.ensures (file_places 16 c.args.text.now c.args.tokens.now c.in-Ok.entries c.requires.tokens (file_sound 15 c.args.tokens.now c.in-Ok.entries (rw c.new-left.ensures at c.in-Ok.ensures)))
+    rw c.as_slice.ensures (file_spans 16 c.args.text.now c.args.tokens.now c.in-Ok.entries c.requires.tokens (file_sound 15 c.args.tokens.now c.in-Ok.entries (rw c.new-left.ensures at c.in-Ok.ensures)))
 
 pub invariant_of-result : goal.invariant_of-result
 invariant_of-result c =

@@ -1,4 +1,4 @@
-use Rattle.idl_parse.proofs.Lexing.EscapeLaws.{quotes_within, spells}
+use Rattle.idl_parse.proofs.Lexing.Strings.EscapeLaws.{quotes_within, spells}
 use Rattle.idl_parse.proofs.escape.spelled.Goals as goal
 
 pub between_quotes-requires : goal.between_quotes-requires

@@ -1,6 +1,6 @@
 use Rattle.std.proofs.Common.{◌≡◌, ◌∙◌, get_or, rules}
 use Rattle.idl_parse.specs.EscapeSteps.{escape_step, unescaped}
-use Rattle.idl_parse.proofs.Lexing.EscapeLaws.{bytes_go_on, bytes_end}
+use Rattle.idl_parse.proofs.Lexing.Strings.EscapeLaws.{bytes_go_on, bytes_end}
 use Rattle.idl_parse.proofs.escape.unescaped.Goals as goal
 
 pub loop-byte-preserved : goal.loop-byte-preserved

@@ -1,9 +1,9 @@
 use Rattle.std.proofs.Common.{length}
-use Rattle.idl_parse.specs.Tokens.{ArePieces}
+use Rattle.idl_parse.specs.Tokens.{AreLexemes}
 use Rattle.idl_parse.proofs.lexer.lex.Given as goal
 
-abbrev pub invariant-pieces : goal.invariant-pieces
-invariant-pieces l = ArePieces (length l.text) l.text l.tokens l.rest
+abbrev pub invariant-lexemes : goal.invariant-lexemes
+invariant-lexemes l = AreLexemes (length l.text) l.text l.tokens l.rest
 
-abbrev pub decreases-pieces : goal.decreases-pieces
-decreases-pieces l = length l.rest
+abbrev pub decreases-lexemes : goal.decreases-lexemes
+decreases-lexemes l = length l.rest

@@ -1,7 +1,7 @@
-use Rattle.idl_parse.proofs.Lexing.SpanLaws.{spans_are}
-use Rattle.idl_parse.proofs.Lexing.TextLaws.{one_spelling}
-use Rattle.idl_parse.proofs.Lexing.TextOutcomes.{one_tokens, one_lex_fault, not_both}
-use Rattle.idl_parse.proofs.Lexing.TotalLaws.{some_outcome}
+use Rattle.idl_parse.proofs.Lexing.Lexemes.SpanLaws.{spans_are}
+use Rattle.idl_parse.proofs.Lexing.Strings.TextLaws.{one_spelling}
+use Rattle.idl_parse.proofs.Lexing.Strings.TextOutcomes.{one_tokens, one_lex_fault, not_both}
+use Rattle.idl_parse.proofs.Lexing.Lexemes.TotalLaws.{some_outcome}
 use Rattle.idl_parse.proofs.lexer.one_outcome.Goals as goal
 
 pub returns-clause-some : goal.returns-clause-some

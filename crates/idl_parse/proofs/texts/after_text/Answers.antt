@@ -2,15 +2,15 @@ use Rattle.std.proofs.Common.{ℕ, [], ◌∷◌, ◌++◌, List, length, sym, a
 use Rattle.idl_parse.specs.Texts.{UnitsSpell}
 use Rattle.idl_parse.specs.Texts.UnitsSpell.{none}
 use Rattle.idl_parse.specs.Tokens.IsFault.{bad_escape, open_text}
-use Rattle.idl_parse.proofs.Lexing.TextLaws.{unit_is, quote_is, cut_is, spoilt_is, units_last, unit_shorter, quote_front}
+use Rattle.idl_parse.proofs.Lexing.Strings.TextLaws.{unit_is, quote_is, cut_is, spoilt_is, units_last, unit_shorter, quote_prefix}
 use Rattle.idl_parse.proofs.texts.after_text.Goals as goal
 
-pub behind_first-left-requires : goal.behind_first-left-requires
-behind_first-left-requires c = omega (arith, ap length (quote_front c.args.bytes.now c.requires))
+pub after_first-left-requires : goal.after_first-left-requires
+after_first-left-requires c = omega (arith, ap length (quote_prefix c.args.bytes.now c.requires))
 
 pub units-init : goal.units-init
 units-init c =
-    ([], c.behind_first-left.result.now, quote_front c.args.bytes.now c.requires ∙ ap (λ (t : List ℕ). 34 ∷ t) (sym c.behind_first-left.ensures), none)
+    ([], c.after_first-left.result.now, quote_prefix c.args.bytes.now c.requires ∙ ap (λ (t : List ℕ). 34 ∷ t) (sym c.after_first-left.ensures), none)
 
 pub units-smaller : goal.units-smaller
 units-smaller c = unit_shorter (unit_is c.units.left.now c.in-Ok.rest.now c.in-Ok.ensures).1
@@ -21,8 +21,8 @@ units-preserved c =
     let unit = unit_is c.units.left.now c.in-Ok.rest.now c.in-Ok.ensures in
     (so_far.0 ++ unit.0 ∷ [], so_far.1, so_far.2, units_last so_far.3 unit.1)
 
-pub behind_first-requires : goal.behind_first-requires
-behind_first-requires c =
+pub after_first-requires : goal.after_first-requires
+after_first-requires c =
     let quote = quote_is c.units.left.now (rw c.in-Err-Quote.field-0-is at c.in-Err-Quote.ensures) in
     omega (arith, ap length quote)
 
@@ -30,7 +30,7 @@ pub returns-in-Err-Quote-clause-text : goal.returns-in-Err-Quote-clause-text
 returns-in-Err-Quote-clause-text c =
     let so_far = c.units.invariant in
     let quote = quote_is c.units.left.now (rw c.in-Err-Quote.field-0-is at c.in-Err-Quote.ensures) in
-    (so_far.0, (so_far.1, so_far.2, subst (UnitsSpell so_far.0 so_far.1) (quote ∙ ap (λ (t : List ℕ). 34 ∷ t) (sym c.behind_first.ensures)) so_far.3))
+    (so_far.0, (so_far.1, so_far.2, subst (UnitsSpell so_far.0 so_far.1) (quote ∙ ap (λ (t : List ℕ). 34 ∷ t) (sym c.after_first.ensures)) so_far.3))
 
 pub returns-in-Err-Cut-clause-fault : goal.returns-in-Err-Cut-clause-fault
 returns-in-Err-Cut-clause-fault c =

@@ -1,7 +1,7 @@
 use Rattle.std.proofs.Common.{◌≡◌, [], rules}
 use Rattle.std.proofs.lemmas.Result.{err_from_is_err_and}
 use Rattle.idl_parse.specs.ReadSteps.{file_at}
-use Rattle.idl_parse.proofs.Parsing.FileSteps.{entries_go_on, entries_fail, entries_end, entry_turn}
+use Rattle.idl_parse.proofs.Parsing.Deriving.FileSteps.{entries_go_on, entries_fail, entries_end, entry_turn}
 use Rattle.idl_parse.proofs.parser.file.file.Goals as goal
 
 pub returns-in_err-entry : goal.returns-in_err-entry

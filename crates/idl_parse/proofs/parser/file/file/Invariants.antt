@@ -1,6 +1,6 @@
 use Rattle.std.proofs.Common.{◌≡◌, length}
 use Rattle.idl_parse.specs.ReadSteps.{file_at}
-use Rattle.idl_parse.proofs.Parsing.FileSteps.{with_entries}
+use Rattle.idl_parse.proofs.Parsing.Deriving.FileSteps.{with_entries}
 use Rattle.idl_parse.proofs.parser.file.file.Given as goal
 
 abbrev pub invariant-rest : goal.invariant-rest

@@ -1,5 +1,5 @@
 use Rattle.std.proofs.Common.{rules, ◌≡◌, IsTrue, ◌↔◌}
-use Rattle.idl_parse.proofs.Parsing.KindLaws.{same_kind_told}
+use Rattle.idl_parse.proofs.Parsing.Combining.KindLaws.{same_kind_told}
 use Rattle.idl_parse.proofs.parser.tokens.same_kind.Goals as goal
 
 pub returns : goal.returns

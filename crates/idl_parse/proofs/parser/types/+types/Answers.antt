@@ -1,4 +1,4 @@
-use Rattle.idl_parse.proofs.Parsing.Rooms.{no_room_left, room_left}
+use Rattle.idl_parse.proofs.Parsing.Repeating.Rooms.{no_room_left, room_left}
 use Rattle.idl_parse.proofs.parser.types.+types.Goals as goal
 
 pub type_tree-returns-then-room-eq0 : goal.type_tree-returns-then-room-eq0

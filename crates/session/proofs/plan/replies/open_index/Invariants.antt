@@ -4,7 +4,7 @@ use Rattle.session_model.specs.declared.report.End.{End}
 use Rattle.session.specs.Courses.{is_open_under, settle}
 use Rattle.session.proofs.plan.replies.open_index.Given as goal
 
--- no call before this place is open under the id
+-- no call before this index is open under the id
 abbrev pub invariant-loop-k : goal.invariant-loop-k
 invariant-loop-k l =
     ((end : End) → settle l.id end l.calls ≡ take l.k l.calls ++ settle l.id end (drop l.k l.calls))

@@ -1,5 +1,5 @@
 use Rattle.std.proofs.Common.{◌≡◌, ℕ, false, IsSome, is_some, List, sym, ap, ◌∙◌}
-use Rattle.tars_wire.specs.Left.{Remaining, next_field, behind_next, head_in, LevelLeft}
+use Rattle.tars_wire.specs.Left.{Remaining, next_field, after_next, head_in, LevelLeft}
 use Rattle.tars_wire.proofs.Walking.Leaving.{next_prefix, next_passes, next_room, next_left, next_shorter, end_prefix, end_struct}
 use Rattle.tars_wire.proofs.cursor.levels.past_level.Goals as goal
 
@@ -30,12 +30,12 @@ loop-rest-smaller c =
 pub loop-rest-preserved : goal.loop-rest-preserved
 loop-rest-preserved c =
     let at = c.loop-rest.invariant.stands in
-    let onward : (now : Remaining) (after : List ℕ) → LevelLeft c.args.room c.loop-rest.here now c.loop-rest.rest.now after → LevelLeft c.args.room c.less-here.result (behind_next now) c.past_value-rest.result.now after = λ now after x.
+    let onward : (now : Remaining) (after : List ℕ) → LevelLeft c.args.room c.loop-rest.here now c.loop-rest.rest.now after → LevelLeft c.args.room c.less-here.result (after_next now) c.past_value-rest.result.now after = λ now after x.
     let some : IsSome (head_in (next_field now)) = sym (ap is_some (c.next_head.ensures c.args.room now after x)) ∙ (sym c.is_some.ensures ∙ c.loop-rest-test.true) in
     rw c.less-here.ensures (next_left c.args.room c.loop-rest.here now c.loop-rest.rest.now after x some c.known_head.result.0 c.known_head.result.1.now c.known_head.ensures c.past_value-rest.result.now c.past_value-rest.ensures) in
     record {
-      stands = record { inner = behind_next at.inner; rest = at.rest; is_left = onward at.inner at.rest at.is_left };
-      same = λ inner after x. let y = c.loop-rest.invariant.same inner after x in (behind_next y.0, onward y.0 after y.1);
+      stands = record { inner = after_next at.inner; rest = at.rest; is_left = onward at.inner at.rest at.is_left };
+      same = λ inner after x. let y = c.loop-rest.invariant.same inner after x in (after_next y.0, onward y.0 after y.1);
     }
 
 pub known_head-requires-in-Struct : goal.known_head-requires-in-Struct

@@ -1,6 +1,6 @@
 use Rattle.std.proofs.Common.{◌∙◌, sym}
 use Rattle.idl_parse.specs.declared.kind.Kind.TheVariants.{Ident}
-use Rattle.idl_parse.proofs.Parsing.TokenSteps.{some_first}
+use Rattle.idl_parse.proofs.Parsing.Repeating.TokenSteps.{some_first}
 use Rattle.idl_parse.proofs.parser.tokens.Tokens.first.Goals as goal
 
 pub returns-in-len1-up : goal.returns-in-len1-up

@@ -1,0 +1,4 @@
+-- Numbers and fractions.
+pub mod DigitLaws
+pub mod NumberLaws
+pub mod NumberLengths

@@ -1,0 +1,4 @@
+-- Texts in quotes.
+pub mod EscapeLaws
+pub mod TextLaws
+pub mod TextOutcomes

@@ -1,0 +1,4 @@
+-- Words, runs of bytes and signs.
+pub mod CandidateLaws
+pub mod RunLaws
+pub mod WordLaws
