@@ -13,11 +13,11 @@ number_of WriteFault = 4
 number_of Memory = 5
 number_of NetFault = 6
 
--- the line on standard error, without its end
+-- the line that tells of a fault, without its end
 abbrev pub message_of : Status → Option (List ℕ)
 message_of Done = None
 message_of Refused = None
-message_of Usage = Some (codes "usage: check encode decode compat plan made drill serve call")
+message_of Usage = None
 message_of ReadFault = Some (codes "read fault")
 message_of WriteFault = Some (codes "write fault")
 message_of Memory = Some (codes "no memory")

@@ -28,13 +28,12 @@ impl Status {
         self as u8
     }
 
-    /// The line that goes to standard error, without its end.
+    /// The line that tells of a fault, without its end.
     pub fn message(self) -> Option<&'static str>
         ensures { option_copied result ≡ message_of self }
     {
         match self {
-            Status::Done | Status::Refused => None,
-            Status::Usage => Some("usage: check encode decode compat plan made drill serve call"),
+            Status::Done | Status::Refused | Status::Usage => None,
             Status::ReadFault => Some("read fault"),
             Status::WriteFault => Some("write fault"),
             Status::Memory => Some("no memory"),

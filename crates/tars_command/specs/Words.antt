@@ -1,5 +1,8 @@
 -- The words of the command line (docs/SCRIPTS.md, "Commands").
-use Rattle.std.specs.Prelude.{◌≡◌, ℕ, Bool, true, false, ◌==◌, not, List, [], ◌∷◌, codes}
+use Rattle.std.specs.Prelude.{◌≡◌, ℕ, Bool, true, false, ◌==◌, not, List, [], ◌∷◌, Option, Some, None, codes}
+use Rattle.tars_base.specs.Status.{message_of}
+use Rattle.tars_base.specs.declared.status.Status.{Status}
+use Rattle.tars_base.specs.declared.status.Status.TheVariants.{Usage}
 
 -- no word is empty or begins with `-`
 abbrev pub is_word : List ℕ → Bool
@@ -14,3 +17,8 @@ pub record AskForPlan (words : List (List ℕ)) (script : List ℕ) : Type 0 whe
 -- the words are no form of a command
 abbrev pub AreNoForm : List (List ℕ) → Type 0
 AreNoForm words = (script : List ℕ) → ¬ AskForPlan words script
+
+-- the line on standard error at the end of a run, without its end
+abbrev pub error_line_of : Status → Option (List ℕ)
+error_line_of Usage = Some (codes "usage: check encode decode compat plan made drill serve call")
+error_line_of status = message_of status

@@ -1,8 +1,10 @@
-//! The words of the command line, which `specs/Words.antt` says.
+//! The words of the command line, which `specs/Words.antt` says, and the line of usage.
 
 ghost use Rattle.std.specs.Prelude.{◌≡◌, map, option_copied, string_bytes, MatchOption};
-ghost use Rattle.tars_command.specs.Words.{AskForPlan, AreNoForm, is_word};
+ghost use Rattle.tars_command.specs.Words.{AskForPlan, AreNoForm, is_word, error_line_of};
 ghost use Rattle.tars_command.specs.WordSteps.{script_in};
+
+use tars_base::Status;
 
 /// Whether a word names something: it is not empty, and no option.
 fn is_word(text: &str) -> bool
@@ -11,6 +13,16 @@ fn is_word(text: &str) -> bool
     match text.as_bytes() {
         [] => false,
         [first, ..] => *first != b'-',
+    }
+}
+
+/// The line that goes to standard error at the end of a run, without its end.
+pub fn error_line(status: Status) -> Option<&'static str>
+    ensures { option_copied result ≡ error_line_of status }
+{
+    match status {
+        Status::Usage => Some("usage: check encode decode compat plan made drill serve call"),
+        other => other.message(),
     }
 }
 

@@ -13,7 +13,7 @@ use std::env;
 use std::io::ErrorKind;
 use std::process::ExitCode;
 use tars_base::Status;
-use tars_command::run;
+use tars_command::{error_line, run};
 
 /// Runs the arguments after the program's name.
 fn run_words(rt: &HostRuntime) -> Status {
@@ -33,7 +33,7 @@ fn run_words(rt: &HostRuntime) -> Status {
 
 fn main(rt: HostRuntime) -> ExitCode {
     let status = run_words(&rt);
-    if let Some(line) = status.message() {
+    if let Some(line) = error_line(status) {
         // Where the line can't be printed, the status still tells.
         let _ = rt.eprintln(line);
     }
