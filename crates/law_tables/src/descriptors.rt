@@ -3,7 +3,8 @@
 use std::alloc::{AllocError, Global};
 use std::str;
 use tars_model::{
-    Boxed, Direction, FuncDesc, InterfaceDesc, List, Member, Name, Param, Schema, Ty, args_of, reply_of,
+    Boxed, Direction, FuncDesc, InterfaceDesc, List, Member, Name, Param, Schema, Ty, args_of,
+    reply_of,
 };
 
 /// The most parameters of a function.
