@@ -1,12 +1,17 @@
-//! Worked cases for `tars_wire` and `idl_parse`: the files `data/*.rows` have the cases, a row each, and
-//! `stdout` what each of them comes to. What comes of a row was worked by hand from docs/PROTOCOL.md and
-//! docs/IDL.md; it is printed in the row's place, and comments and empty lines are printed as they are.
+//! Worked cases for `tars_base`, `tars_model`, `tars_wire`, `tars_codec` and `idl_parse`: the files `data/*.rows`
+//! have the cases, a row each, and `stdout` what each of them comes to. What comes of a row was worked by hand from
+//! docs/PROTOCOL.md, docs/IDL.md and docs/SCRIPTS.md; it is printed in the row's place, and comments and empty lines
+//! are printed as they are.
 //!
 //! The program takes the names of files. Of a file that is no table it prints whether its bytes are a body
 //! of tagged fields (docs/PROTOCOL.md, "Reading"), so that scanning can be timed.
 #![tactic(auto)]
 
+mod codec;
 mod descriptors;
+mod entries;
+mod fields;
+mod outside;
 mod row_text;
 mod rows;
 mod shape;

@@ -2,7 +2,9 @@
 
 ghost use Rattle.std.specs.Prelude.{◌<◌, ◌^◌, length};
 
+use crate::codec::coded;
 use crate::descriptors::{interfaces, members};
+use crate::outside::{copies, reads, status, writes};
 use crate::row_text::bytes_of;
 use crate::shape::shape_of;
 use crate::walk::walked;
@@ -170,6 +172,11 @@ pub fn answer(alloc: Global, row: &str) -> Result<String, AllocError> {
         "reason" => reason(alloc, &bytes),
         "members" => members(alloc, &bytes),
         "interfaces" => interfaces(alloc),
+        "codec" => coded(alloc, text),
+        "reads" => reads(alloc, text),
+        "writes" => writes(alloc, text),
+        "copies" => copies(alloc, text),
+        "status" => status(alloc, text),
         _ => String::from_str(alloc, row),
     }
 }

@@ -15,8 +15,6 @@ mod mem_sink;
 mod named_file;
 mod sink;
 mod status;
-#[cfg(test)]
-mod tests;
 
 pub use fault::{Failed, Memory, ReadFault};
 pub use files::Files;

@@ -12,6 +12,3 @@ mod writing;
 pub use reading::decode;
 pub use refuse::Refuse;
 pub use writing::encode;
-
-#[cfg(test)]
-mod tests;
