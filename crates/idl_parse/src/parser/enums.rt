@@ -1,14 +1,13 @@
 ghost use Rattle.std.specs.Prelude.{◌≡◌};
-ghost use Rattle.idl_parse.specs.ReadSteps.{Reads, item_at, item_comma_at, items_at};
+ghost use Rattle.idl_parse.specs.ReadSteps.{Reads, item_at, item_comma_at};
 
 use super::halt::Halt;
-use super::items::{Item, until};
+use super::items::Item;
 use super::tokens::Tokens;
 use crate::kind::Kind;
 use crate::sign::Sign;
 use crate::tree::EnumItem;
 use std::alloc::Global;
-use tars_model::List;
 
 /// `ident [ = number ]`
 #[tactic(auto, unfolding(crate::specs::ReadSteps::item_at, crate::specs::ReadSteps::item_number_at))]

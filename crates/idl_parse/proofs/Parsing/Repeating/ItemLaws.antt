@@ -1,5 +1,5 @@
 -- The enumerators of an enum, after the last of which a comma may stand.
-use Rattle.std.proofs.Common.{◌≡◌, ℕ, zero, suc, ◌<◌, ◌≤◌, Bool, true, false, cond, Result, Ok, Err, List, [], ◌∷◌, ◌++◌, length, refl, ap, ◌∙◌, arith, inl, inr}
+use Rattle.std.proofs.Common.{◌≡◌, ℕ, zero, suc, ◌<◌, ◌≤◌, Bool, true, false, cond, Ok, Err, List, [], ◌∷◌, length, refl, ap, ◌∙◌, arith, inl, inr}
 use Rattle.facts.specs.ResultSteps.{◌>>=◌}
 use Rattle.facts.proofs.ResultLaws.{bind_assoc, bind_gave, bind_same_after}
 use Rattle.idl_parse.specs.Grammar.{Mark, Number, Item}

@@ -1,5 +1,5 @@
 -- Readers that repeat: the fuel is enough, since each turn takes a token.
-use Rattle.std.proofs.Common.{◌≡◌, ℕ, zero, suc, ◌<◌, Bool, cond, Result, Ok, Err, List, [], ◌∷◌, length, refl, ap, arith}
+use Rattle.std.proofs.Common.{◌≡◌, ℕ, zero, suc, ◌<◌, Bool, cond, Ok, List, [], ◌∷◌, length, ap, arith}
 use Rattle.facts.specs.ResultSteps.{◌>>=◌}
 use Rattle.facts.proofs.ResultLaws.{bind_same_after}
 use Rattle.idl_parse.specs.KindSteps.{begins}

@@ -1,5 +1,5 @@
 -- { P } and a sign.
-use Rattle.std.proofs.Common.{◌≡◌, ℕ, zero, suc, ◌<◌, ◌≤◌, true, false, Ok, List, [], ◌∷◌, ◌++◌, length, refl, ap, ◌∙◌, arith, inl, inr}
+use Rattle.std.proofs.Common.{◌≡◌, ℕ, zero, suc, ◌<◌, ◌≤◌, true, false, List, [], ◌∷◌, ◌++◌, length, refl, ap, ◌∙◌, arith, inl, inr}
 use Rattle.idl_parse.specs.Depth.{following}
 use Rattle.idl_parse.specs.Grammar.{Mark}
 use Rattle.idl_parse.specs.ReadSteps.{mark_at, until_at}
