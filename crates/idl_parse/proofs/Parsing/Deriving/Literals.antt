@@ -1,5 +1,5 @@
 -- Names, literals and types of one word, at any depth.
-use Rattle.std.proofs.Common.{◌≡◌, ℕ, ◌<◌, Bool, true, false, Some, List, [], ◌∷◌, refl}
+use Rattle.std.proofs.Common.{◌≡◌, ℕ, ◌<◌, true, false, Some, List, [], ◌∷◌, refl}
 use Rattle.idl_parse.specs.Depth.{following}
 use Rattle.idl_parse.specs.Grammar.{Mark, SpanOf, Ident, Scoped, Array, LiteralOf, BasicOf, UnsignedOf, NamedOf}
 use Rattle.idl_parse.specs.KindSteps.{same_kind, holds}

@@ -9,7 +9,6 @@ use Rattle.idl_parse.specs.declared.kind.Kind.TheVariants as kinds
 use Rattle.idl_parse.specs.declared.sign.Sign.{Sign}
 use Rattle.idl_parse.specs.declared.sign.Sign.TheVariants as signs
 use Rattle.idl_parse.specs.declared.token.Token.{Token}
-use Rattle.idl_parse.specs.declared.tree.decl.DeclTree.{DeclTree}
 use Rattle.idl_parse.specs.declared.tree.type_tree.TypeTree.{TypeTree}
 
 pub some_first : (d : Token) (ts : List Token) → 1 ≤ length ts → (rest : List Token) × (ts ≡ slice_index_or ts 0 d ∷ rest)
