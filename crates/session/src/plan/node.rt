@@ -28,7 +28,7 @@ impl Plan<'_> {
         requires { Tracks self.old (course_of self.old) }
         ensures { OnOk result (Follows self.old self.new (Work NODE)) }
     {
-        let Some(request) = self.queue.pop_prefix() else {
+        let Some(request) = self.queue.pop_front() else {
             return Ok(());
         };
         let frame = answer(alloc, &self.service, request.as_slice())?;

@@ -110,7 +110,7 @@ pub fn take_all_in(
     ensures { (os : List Opened) → AllByRecursion IsOpened os → packets.items ≡ map (answer_frame service.now) os
         → OnOk result (TakeIn service.now os calls.old.items got.old.items calls.new.items got.new.items) }
 {
-    while let Some(packet) = packets.pop_prefix() {
+    while let Some(packet) = packets.pop_front() {
         take_in(alloc, service, calls, got, packet)?;
     }
     Ok(())

@@ -28,7 +28,7 @@ pub returns-in_default : goal.returns-in_default
 returns-in_default c =
     let t = c.requires in
     let p = c.args.self.now in
-    let q : Plan = record p { queue = c.pop_prefix.new.self } in
+    let q : Plan = record p { queue = c.pop_front.new.self } in
     let empty : p.queue.items ≡ [] = fixed_by_drop p.queue.items (c.in_default.ensures.items ∙ c.in_default.ensures.rest) in
     record {
       same = record { service_is = refl; events_are = refl; done_is = refl };
@@ -45,7 +45,7 @@ request_taken p c t packet rest e = next_of IsOpened (sent_frame p.service) (ope
 
 pub answer-requires-clause-written : goal.answer-requires-clause-written
 answer-requires-clause-written c =
-    let n = request_taken c.args.self.now (course_of c.args.self.now) c.requires c.in-Some.request c.pop_prefix.new.self.items c.in-Some.ensures.items in
+    let n = request_taken c.args.self.now (course_of c.args.self.now) c.requires c.in-Some.request c.pop_front.new.self.items c.in-Some.ensures.items in
     (n.x.args, n.x.id, record { ints = n.holds.ints; small = n.holds.small; bytes = c.as_slice.ensures ∙ n.is })
 
 append_both : {a b x y : List ℕ} → a ≡ x → b ≡ y → a ++ b ≡ x ++ y
@@ -56,8 +56,8 @@ returns c =
     let t = c.requires in
     let p = c.args.self.now in
     let course = course_of p in
-    let q : Plan = record p { queue = c.pop_prefix.new.self; to_caller = c.extend_from_slice.new.self } in
-    let n = request_taken p course t c.in-Some.request c.pop_prefix.new.self.items c.in-Some.ensures.items in
+    let q : Plan = record p { queue = c.pop_front.new.self; to_caller = c.extend_from_slice.new.self } in
+    let n = request_taken p course t c.in-Some.request c.pop_front.new.self.items c.in-Some.ensures.items in
     record {
       same = record { service_is = refl; events_are = refl; done_is = refl };
       tracks =

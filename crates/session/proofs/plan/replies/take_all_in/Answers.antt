@@ -25,7 +25,7 @@ pub take_in-requires-clause-answer : goal.take_in-requires-clause-answer
 take_in-requires-clause-answer c =
     let w = c.requires.answers in
     let left = c.loop-packet.invariant w.0 w.1 w.2 in
-    let f = first_of c.args.service.now left.0 c.in-Some.packet c.pop_prefix.new.self.items left.1 (sym c.in-Some.ensures.items ∙ left.2) in
+    let f = first_of c.args.service.now left.0 c.in-Some.packet c.pop_front.new.self.items left.1 (sym c.in-Some.ensures.items ∙ left.2) in
     (f.first, f.opened, f.is)
 
 -- one more is taken in
@@ -38,5 +38,5 @@ one_more s o os rest calls new_calls got new_got end e takes h = rw (takes.0, ta
 pub loop-packet-preserved : goal.loop-packet-preserved
 loop-packet-preserved c = λ os each e.
     let left = c.loop-packet.invariant os each e in
-    let f = first_of c.args.service.now left.0 c.in-Some.packet c.pop_prefix.new.self.items left.1 (sym c.in-Some.ensures.items ∙ left.2) in
+    let f = first_of c.args.service.now left.0 c.in-Some.packet c.pop_front.new.self.items left.1 (sym c.in-Some.ensures.items ∙ left.2) in
     (f.others, f.each, f.rest_is, one_more c.args.service.now f.first f.others left.0 _ _ _ _ _ f.all (c.in_ok-take_in.ensures f.first f.opened f.is) left.3)
