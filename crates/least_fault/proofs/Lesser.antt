@@ -1,10 +1,7 @@
 -- Laws of the lesser of two, and of the least of a list.
-use Rattle.std.proofs.Common.{◌≡◌, subst, unwrap_or, Bool, true, false, cond, Option, Some, None, List, [], ◌∷◌, ◌++◌, refl, sym, ap, ◌∙◌, ◌⊎◌, inl, inr}
+use Rattle.std.proofs.Common.{◌≡◌, subst, unwrap_or, Bool, true, false, cond, Option, Some, None, List, [], ◌∷◌, ◌++◌, refl, sym, ap, ◌∙◌, inl, inr}
+use Rattle.std.proofs.lemmas.Bool.{cases_Bool}
 use Rattle.least_fault.specs.Least.{IsOrder, NoneBelow, IsLeast, lesser, least_of}
-
-truth : (b : Bool) → (b ≡ true) ⊎ (b ≡ false)
-truth true = inl refl
-truth false = inr refl
 
 true_and_false : {A : Type 0} (b : Bool) → b ≡ true → b ≡ false → A
 true_and_false b is is_not = absurd (clash b is is_not)
@@ -25,9 +22,9 @@ module _ {X : Type 0} (below : X → X → Bool) (order : IsOrder below) where
   lesser_comm None b = sym (lesser_none below b)
   lesser_comm (Some x) None = refl
   lesser_comm (Some x) (Some y) =
-      elim (truth (below y x)) [
+      elim (cases_Bool (below y x)) [
         | inl yx ↦ rw (yx, order.one_way y x yx) refl
-        | inr yx ↦ elim (truth (below x y)) [
+        | inr yx ↦ elim (cases_Bool (below x y)) [
           | inl xy ↦ rw (yx, xy) refl
           | inr xy ↦ rw (yx, xy) (some_same x y (order.apart x y xy yx))
         ]
@@ -36,8 +33,8 @@ module _ {X : Type 0} (below : X → X → Bool) (order : IsOrder below) where
   -- what is not below the middle one is not below one that the middle one is not above
   not_onward : (x y z : X) → below y x ≡ false → below z y ≡ false → below z x ≡ false
   not_onward x y z yx zy =
-      elim (truth (below z x)) [
-        | inl zx ↦ elim (truth (below y z)) [
+      elim (cases_Bool (below z x)) [
+        | inl zx ↦ elim (cases_Bool (below y z)) [
           | inl yz ↦ true_and_false (below y x) (order.onward y z x yz zx) yx
           | inr yz ↦ true_and_false (below y x) (ap (λ w. below w x) (sym (order.apart z y zy yz)) ∙ zx) yx
         ]
@@ -49,12 +46,12 @@ module _ {X : Type 0} (below : X → X → Bool) (order : IsOrder below) where
   lesser_assoc (Some x) None c = refl
   lesser_assoc (Some x) (Some y) None = lesser_none below (lesser below (Some x) (Some y))
   lesser_assoc (Some x) (Some y) (Some z) =
-      elim (truth (below y x)) [
-        | inl yx ↦ elim (truth (below z y)) [
+      elim (cases_Bool (below y x)) [
+        | inl yx ↦ elim (cases_Bool (below z y)) [
           | inl zy ↦ rw (yx, zy, order.onward z y x zy yx) refl
           | inr zy ↦ rw (yx, zy) (rw yx refl)
         ]
-        | inr yx ↦ elim (truth (below z y)) [
+        | inr yx ↦ elim (cases_Bool (below z y)) [
           | inl zy ↦ rw (yx, zy) refl
           | inr zy ↦ rw (yx, zy, not_onward x y z yx zy) (rw yx refl)
         ]
@@ -86,7 +83,7 @@ module _ {X : Type 0} (below : X → X → Bool) (order : IsOrder below) where
   none_empty (x ∷ xs) e = absurd (no_value (least_of below xs) x e)
 
   not_below_itself : (x : X) → below x x ≡ false
-  not_below_itself x = elim (truth (below x x)) [ inl xx ↦ order.one_way x x xx | inr xx ↦ xx ]
+  not_below_itself x = elim (cases_Bool (below x x)) [ inl xx ↦ order.one_way x x xx | inr xx ↦ xx ]
 
   -- what is not below one is not below another that this one is not below
   none_below_onward : (x z : X) (ys : List X) → below z x ≡ false → NoneBelow below ys z → NoneBelow below ys x
