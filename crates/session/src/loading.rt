@@ -85,7 +85,7 @@ pub fn load<F: Files>(
 ) -> Result<Loaded, LoadFault>
     // Whether contents are told or not.
     ensures sound { IfOk result (λ l. IsLoaded l) }
-    // Where they are told, loading gives what is returned, and nothing else.
+    // Where contents are exposed, this is returned for what they hold, and nothing else.
     ensures told { IsGiven (F.contents files.old) name.now result }
     ensures only { IsOnlyGiven (F.contents files.old) name.now result }
     ensures same { F.contents files.new ≡ F.contents files.old }

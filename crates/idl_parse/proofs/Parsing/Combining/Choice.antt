@@ -1,5 +1,6 @@
 -- A reader that is chosen by the first token reads one relation or the other.
-use Rattle.std.proofs.Common.{◌≡◌, ℕ, ◌<◌, Bool, true, false, cond, Ok, List, [], ◌∷◌, ◌++◌, length, refl, sym, ap, ◌∙◌, arith, ◌⊎◌, inl, inr}
+use Rattle.std.proofs.Common.{◌≡◌, ℕ, ◌<◌, Bool, true, false, cond, Ok, List, [], ◌∷◌, ◌++◌, length, refl, sym, ap, ◌∙◌, arith, inl, inr}
+use Rattle.std.proofs.lemmas.Bool.{cases_Bool}
 use Rattle.idl_parse.specs.KindSteps.{begins}
 use Rattle.idl_parse.specs.ReadSteps.{Read}
 use Rattle.idl_parse.specs.Rules.{Rel, Either}
@@ -22,10 +23,6 @@ alt S T = record {
   empty = T.empty;
 }
 
-pub truth : (b : Bool) → (b ≡ true) ⊎ (b ≡ false)
-truth true = inl refl
-truth false = inr refl
-
 begins_same : (kind : Kind) (ts us : List Token) → head_of ts ≡ head_of us → begins kind ts ≡ begins kind us
 begins_same kind ts us same = begins_is kind ts ∙ starts_same (kind ∷ []) ts us same ∙ sym (begins_is kind us)
 
@@ -34,7 +31,7 @@ begins_by_start kind ts st = begins_is kind ts ∙ st
 
 begins_not : (kind : Kind) (ts : List Token) → (starts (kind ∷ []) ts ≡ true → ⊥) → begins kind ts ≡ false
 begins_not kind ts h =
-    elim (truth (begins kind ts)) [ inl b ↦ absurd (h (sym (begins_is kind ts) ∙ b)) | inr b ↦ b ]
+    elim (cases_Bool (begins kind ts)) [ inl b ↦ absurd (h (sym (begins_is kind ts) ∙ b)) | inr b ↦ b ]
 
 pub take_first : {A : Type 0} (kind : Kind) (f g : Reader A) (m : ℕ) (ts : List Token) (r : Read A) → begins kind ts ≡ true → f m ts ≡ r → choose kind f g m ts ≡ r
 take_first kind f g m ts r b e = rw b e
@@ -73,7 +70,7 @@ module _ {A : Type 0} (k n limit a b : ℕ) (kind : Kind) (follow : List Kind) (
     (one : Reads k n limit a b (one_kind kind follow) P f) (two : Reads k n limit a b T Q g) where
   sound : (ts : List Token) (x : A) (rest : List Token) → length ts < k → choose kind f g n ts ≡ Ok (x, rest) → Either P Q ts x rest
   sound ts x rest lt e =
-      elim (truth (begins kind ts)) [
+      elim (cases_Bool (begins kind ts)) [
         | inl b ↦ inl (one.sound ts x rest lt (sym (take_first kind f g n ts (f n ts) b refl) ∙ e))
         | inr b ↦ inr (two.sound ts x rest lt (sym (take_second kind f g n ts (g n ts) b refl) ∙ e))
       ]
@@ -128,7 +125,7 @@ module _ {A : Type 0} (k n limit a b : ℕ) (kind : Kind) (follow : List Kind) (
 
   keeps : (ts : List Token) (x : A) (rest : List Token) → length ts < k → choose kind f g n ts ≡ Ok (x, rest) → Kept n limit a b (alt (one_kind kind follow) T) (choose kind f g) ts x rest
   keeps ts x rest lt e =
-      elim (truth (begins kind ts)) [
+      elim (cases_Bool (begins kind ts)) [
         | inl here ↦
             let fx : f n ts ≡ Ok (x, rest) = sym (take_first kind f g n ts (f n ts) here refl) ∙ e in
             let h = one.keeps ts x rest lt fx in
@@ -174,7 +171,7 @@ module _ {A : Type 0} (k n limit a b : ℕ) (kind : Kind) (follow : List Kind) (
 
   stays : (ts left : List Token) → length ts < k → choose kind f g n ts ≡ halted left → Stayed n limit a (alt (one_kind kind follow) T) (choose kind f g) ts left
   stays ts left lt e =
-      elim (truth (begins kind ts)) [
+      elim (cases_Bool (begins kind ts)) [
         | inl here ↦
             let h = one.stays ts left lt (sym (take_first kind f g n ts (f n ts) here refl) ∙ e) in
             stayed_as n (alt (one_kind kind follow) T) (choose kind f g) h (λ none. fresh_first h.more (h.fresh none))
@@ -201,7 +198,7 @@ module _ {A : Type 0} (k n limit a b : ℕ) (kind : Kind) (follow : List Kind) (
 
   deep : (ts left : List Token) → length ts < k → choose kind f g n ts ≡ too_deep left → Deep n limit a (alt (one_kind kind follow) T) (choose kind f g) ts left
   deep ts left lt e =
-      elim (truth (begins kind ts)) [
+      elim (cases_Bool (begins kind ts)) [
         | inl here ↦
             let h = one.deep ts left lt (sym (take_first kind f g n ts (f n ts) here refl) ∙ e) in
             deep_as n (alt (one_kind kind follow) T) (choose kind f g) h (λ m above tail free.

@@ -1,5 +1,5 @@
 -- First tokens, sets of kinds, and results.
-use Rattle.std.proofs.Common.{◌≡◌, ℕ, Bool, true, false, ◌&&◌, ◌||◌, not, Result, Ok, Err, List, [], ◌∷◌, ◌++◌, length, refl, sym, ap, ◌∙◌, arith, ◌⊎◌, inl, inr, length-append}
+use Rattle.std.proofs.Common.{◌≡◌, ℕ, Bool, true, false, ◌&&◌, ◌||◌, not, Result, Ok, Err, List, [], ◌∷◌, ◌++◌, length, refl, sym, ap, ◌∙◌, arith, ◌⊎◌, inl, inr, length-append, append_assoc}
 use Rattle.facts.specs.ResultSteps.{◌>>=◌}
 use Rattle.idl_parse.specs.Depth.{following, opened, Shallow}
 use Rattle.idl_parse.specs.KindSteps.{same_kind, holds, begins}
@@ -120,6 +120,9 @@ shallow_append limit n (t ∷ ts) b left right = (left.0, shallow_append limit (
 pub empty_both : (a b : List Token) → a ++ b ≡ [] → (a ≡ []) × (b ≡ [])
 empty_both [] b is = (refl, is)
 empty_both (t ∷ ts) b is = cc
+
+pub prefixes_join : (a b mid rest ts : List Token) → ts ≡ a ++ mid → mid ≡ b ++ rest → ts ≡ (a ++ b) ++ rest
+prefixes_join a b mid rest ts is is' = is ∙ ap (λ m. a ++ m) is' ∙ sym (append_assoc a b rest)
 
 pub length_prefix : (prefix rest tokens : List Token) → tokens ≡ prefix ++ rest → length rest ≡ length tokens → prefix ≡ []
 length_prefix [] rest tokens is same = refl

@@ -7,7 +7,7 @@ use Rattle.idl_parse.specs.ReadSteps.{Read}
 use Rattle.idl_parse.specs.Rules.{Rel, ◌⟫◌}
 use Rattle.idl_parse.specs.declared.parse_fault.ParseWhy.TheVariants.{Unexpected, TooDeep}
 use Rattle.idl_parse.specs.declared.token.Token.{Token}
-use Rattle.idl_parse.proofs.Parsing.Combining.Heads.{bind_err, then_ok, then_err, starts_left, starts_right, apart, starts_apart, starts_nothing, head_append, opened_append, shallow_append}
+use Rattle.idl_parse.proofs.Parsing.Combining.Heads.{bind_err, then_ok, then_err, empty_both, prefixes_join, starts_left, starts_right, apart, starts_apart, starts_nothing, head_append, opened_append, shallow_append}
 use Rattle.idl_parse.proofs.Parsing.Combining.Readers.{Reader, halted, too_deep, Shape, seq, head_of, starts, Begun, has_some, has_none, Fresh, some_more, no_more, Kept, Stayed, Deep, Filled, Core, Reads, core_of}
 
 abbrev pub then : {A B : Type 0} → Reader A → (A → Reader B) → Reader B
@@ -79,21 +79,14 @@ fresh_after : (S T : Shape) (more : List Token) → S.empty ≡ true → Fresh T
 fresh_after S T more empty (some_more st) = some_more (starts_right S.first (cond S.empty T.first []) more (rw empty st))
 fresh_after S T more empty (no_more empty' is) = no_more (rw (empty, empty') refl) is
 
-prefix_empty : (a b : List Token) → a ++ b ≡ [] → (a ≡ []) × (b ≡ [])
-prefix_empty [] b is = (refl, is)
-prefix_empty (t ∷ a) b is = cc
-
-join : (a b mid rest ts : List Token) → ts ≡ a ++ mid → mid ≡ b ++ rest → ts ≡ (a ++ b) ++ rest
-join a b mid rest ts is is' = is ∙ ap (λ m. a ++ m) is' ∙ sym (append_assoc a b rest)
+reads_on : {A B : Type 0} (f : Reader A) (g : A → Reader B) (m : ℕ) (ts : List Token) (x : A) (mid : List Token) (r : Read B) → f m ts ≡ Ok (x, mid) → g x m mid ≡ r → then f g m ts ≡ r
+reads_on f g m ts x mid r fx gx = then_ok (f m ts) (λ x. g x.0 m x.1) (x, mid) fx ∙ gx
 
 module _ {A B : Type 0} (k k' n : ℕ) (S T : Shape) (P : Rel A) (Q : A → Rel B) (f : Reader A) (g : A → Reader B)
     (no_common : apart S.follow T.first ≡ true) (enough : S.empty ≡ true → k ≤ k') (almost : k ≤ suc k')
     (one : Core k n S P f) (two : (x : A) → Core k' n T (Q x) (g x)) where
   short_core : (ts : List Token) (x : A) (mid : List Token) → length ts < k → P ts x mid → length mid < k'
   short_core ts x mid lt p = shorter S ts mid k k' (one.begun ts x mid lt p) lt enough almost
-
-  goes_on : (m : ℕ) (ts : List Token) (x : A) (mid : List Token) (r : Read B) → f m ts ≡ Ok (x, mid) → g x m mid ≡ r → then f g m ts ≡ r
-  goes_on m ts x mid r fx gx = then_ok (f m ts) (λ x. g x.0 m x.1) (x, mid) fx ∙ gx
 
   begun_core : (ts : List Token) (y : B) (rest : List Token) → length ts < k → (P ⟫ Q) ts y rest → Begun (seq S T) ts rest
   begun_core ts y rest lt (x, mid, p, q) = begun_seq S T ts mid rest (one.begun ts x mid lt p) ((two x).begun mid y rest (short_core ts x mid lt p) q)
@@ -108,7 +101,7 @@ module _ {A B : Type 0} (k k' n : ℕ) (S T : Shape) (P : Rel A) (Q : A → Rel 
         fresh = fresh_seq S T h.more j.more h.fresh j.fresh;
         fills = λ m lt tail free.
             rw (append_assoc h.more j.more tail)
-            (goes_on m (h.more ++ (j.more ++ tail)) h.value (j.more ++ tail) (Ok (j.value, tail))
+            (reads_on f g m (h.more ++ (j.more ++ tail)) h.value (j.more ++ tail) (Ok (j.value, tail))
             (h.fills m lt (j.more ++ tail) (not_at_fresh S T j.more tail no_common j.fresh free))
             (j.fills m lt tail (not_left S T tail free)));
       }
@@ -121,9 +114,6 @@ module _ {A B : Type 0} (k k' n limit a b c : ℕ) (S T : Shape) (P : Rel A) (Q 
     (no_common : apart S.follow T.first ≡ true) (enough : S.empty ≡ true → k ≤ k') (almost : k ≤ suc k')
     (one : Reads k n limit a b S P f) (core : (x : A) → Core k' n T (Q x) (g x))
     (two : (x : A) (ts mid : List Token) → length ts < k → f n ts ≡ Ok (x, mid) → Reads k' n limit b c T (Q x) (g x)) where
-  reads_on : (m : ℕ) (ts : List Token) (x : A) (mid : List Token) (r : Read B) → f m ts ≡ Ok (x, mid) → g x m mid ≡ r → then f g m ts ≡ r
-  reads_on m ts x mid r fx gx = then_ok (f m ts) (λ x. g x.0 m x.1) (x, mid) fx ∙ gx
-
   short : (ts : List Token) (x : A) (mid : List Token) → length ts < k → P ts x mid → length mid < k'
   short ts x mid lt p = shorter S ts mid k k' (one.begun ts x mid lt p) lt enough almost
 
@@ -137,7 +127,7 @@ module _ {A B : Type 0} (k k' n limit a b c : ℕ) (S T : Shape) (P : Rel A) (Q 
   complete ts y rest lt (x, mid, p, q) free =
       let s = short ts x mid lt p in
       let fx = one.complete ts x mid lt p (not_between S T mid rest no_common ((core x).begun mid y rest s q) free) in
-      reads_on n ts x mid (Ok (y, rest)) fx ((two x ts mid lt fx).complete mid y rest s q (not_left S T rest free))
+      reads_on f g n ts x mid (Ok (y, rest)) fx ((two x ts mid lt fx).complete mid y rest s q (not_left S T rest free))
 
   keeps : (ts : List Token) (y : B) (rest : List Token) → length ts < k → then f g n ts ≡ Ok (y, rest) → Kept n limit a c (seq S T) (then f g) ts y rest
   keeps ts y rest lt e =
@@ -151,10 +141,10 @@ module _ {A B : Type 0} (k k' n limit a b c : ℕ) (S T : Shape) (P : Rel A) (Q 
       let begins = second.begun mid y rest s (second.sound mid y rest s p.2) in
       record {
         prefix = h.prefix ++ j.prefix;
-        whole = join h.prefix j.prefix mid rest ts h.whole j.whole;
+        whole = prefixes_join h.prefix j.prefix mid rest ts h.whole j.whole;
         again = λ m le more ok.
             rw (append_assoc h.prefix j.prefix more)
-            (reads_on m (h.prefix ++ (j.prefix ++ more)) x (j.prefix ++ more) (Ok (y, more))
+            (reads_on f g m (h.prefix ++ (j.prefix ++ more)) x (j.prefix ++ more) (Ok (y, more))
             (h.again m le (j.prefix ++ more) (same_between S T j.prefix mid rest more j.whole begins ok))
             (j.again m le more (λ st. ok (starts_left T.follow (cond T.empty S.follow []) more st))));
         shallow = shallow_append limit a h.prefix j.prefix h.shallow (rw h.open_after j.shallow);
@@ -173,7 +163,7 @@ module _ {A B : Type 0} (k k' n limit a b c : ℕ) (S T : Shape) (P : Rel A) (Q 
         fresh = λ none. fresh_seq S T h.more j.more (h.fresh none) j.fresh;
         fills = λ m lt tail free.
             rw (append_assoc h.more j.more tail)
-            (reads_on m (h.prefix ++ (h.more ++ (j.more ++ tail))) h.value (j.more ++ tail) (Ok (j.value, tail))
+            (reads_on f g m (h.prefix ++ (h.more ++ (j.more ++ tail))) h.value (j.more ++ tail) (Ok (j.value, tail))
             (h.fills m lt (j.more ++ tail) (not_at_fresh S T j.more tail no_common j.fresh free))
             (j.fills m lt tail (not_left S T tail free)));
         stuck = λ t l is m le others. then_err (f m (h.prefix ++ (t ∷ others))) (λ x. g x.0 m x.1) (record { left = t ∷ others; why = Unexpected }) (h.stuck t l is m le others);
@@ -188,20 +178,20 @@ module _ {A B : Type 0} (k k' n limit a b c : ℕ) (S T : Shape) (P : Rel A) (Q 
       let j = (two x ts mid lt fx).stays mid left s gx in
       record {
         prefix = h.prefix ++ j.prefix;
-        whole = join h.prefix j.prefix mid left ts h.whole j.whole;
+        whole = prefixes_join h.prefix j.prefix mid left ts h.whole j.whole;
         more = j.more;
         value = j.value;
         fresh = λ none.
-            let both = prefix_empty h.prefix j.prefix none in
+            let both = empty_both h.prefix j.prefix none in
             fresh_after S T j.more (empty_prefix S h.prefix mid ts h.whole both.0 (one.begun ts x mid lt p)) (j.fresh both.1);
         fills = λ m lt tail free.
             rw (append_assoc h.prefix j.prefix (j.more ++ tail))
-            (reads_on m (h.prefix ++ (j.prefix ++ (j.more ++ tail))) x (j.prefix ++ (j.more ++ tail)) (Ok (j.value, tail))
+            (reads_on f g m (h.prefix ++ (j.prefix ++ (j.more ++ tail))) x (j.prefix ++ (j.more ++ tail)) (Ok (j.value, tail))
             (h.again m (omega arith) (j.prefix ++ (j.more ++ tail)) (same_at_fill S T j.prefix mid left j.more tail no_common j.whole j.fresh free))
             (j.fills m lt tail (not_left S T tail free)));
         stuck = λ t l is m le others.
             rw (append_assoc h.prefix j.prefix (t ∷ others))
-            (reads_on m (h.prefix ++ (j.prefix ++ (t ∷ others))) x (j.prefix ++ (t ∷ others)) (halted (t ∷ others))
+            (reads_on f g m (h.prefix ++ (j.prefix ++ (t ∷ others))) x (j.prefix ++ (t ∷ others)) (halted (t ∷ others))
             (h.again m le (j.prefix ++ (t ∷ others)) (λ st. head_append j.prefix (t ∷ others) left (sym (ap head_of is)) ∙ sym (ap head_of j.whole)))
             (j.stuck t l is m le others));
         shallow = shallow_append limit a h.prefix j.prefix h.shallow (rw h.open_after j.shallow);
@@ -228,7 +218,7 @@ module _ {A B : Type 0} (k k' n limit a b c : ℕ) (S T : Shape) (P : Rel A) (Q 
         value = j.value;
         fills = λ m lt tail free.
             rw (append_assoc h.more j.more tail)
-            (reads_on m (h.prefix ++ (h.next ∷ (h.more ++ (j.more ++ tail)))) h.value (j.more ++ tail) (Ok (j.value, tail))
+            (reads_on f g m (h.prefix ++ (h.next ∷ (h.more ++ (j.more ++ tail)))) h.value (j.more ++ tail) (Ok (j.value, tail))
             (h.fills m lt (j.more ++ tail) (not_at_fresh S T j.more tail no_common j.fresh free))
             (j.fills m (omega arith) tail (not_left S T tail free)));
         shallow = h.shallow;
@@ -244,13 +234,13 @@ module _ {A B : Type 0} (k k' n limit a b c : ℕ) (S T : Shape) (P : Rel A) (Q 
         prefix = h.prefix ++ j.prefix;
         next = j.next;
         others = j.others;
-        whole = join h.prefix j.prefix mid left ts h.whole j.whole;
+        whole = prefixes_join h.prefix j.prefix mid left ts h.whole j.whole;
         is = j.is;
         more = j.more;
         value = j.value;
         fills = λ m lt tail free.
             rw (append_assoc h.prefix j.prefix (j.next ∷ (j.more ++ tail)))
-            (reads_on m (h.prefix ++ (j.prefix ++ (j.next ∷ (j.more ++ tail)))) x (j.prefix ++ (j.next ∷ (j.more ++ tail))) (Ok (j.value, tail))
+            (reads_on f g m (h.prefix ++ (j.prefix ++ (j.next ∷ (j.more ++ tail)))) x (j.prefix ++ (j.next ∷ (j.more ++ tail))) (Ok (j.value, tail))
             (h.again m (omega arith) (j.prefix ++ (j.next ∷ (j.more ++ tail))) (λ st. head_append j.prefix (j.next ∷ (j.more ++ tail)) left (sym (ap head_of j.is)) ∙ sym (ap head_of j.whole)))
             (j.fills m lt tail (not_left S T tail free)));
         shallow = shallow_append limit a h.prefix j.prefix h.shallow (rw h.open_after j.shallow);

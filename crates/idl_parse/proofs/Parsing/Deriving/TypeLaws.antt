@@ -1,6 +1,7 @@
 -- Types are read as the grammar has them, by the room that is left.
 use Rattle.std.proofs.Common.{◌≡◌, ℕ, zero, suc, ◌+◌, ◌<◌, ◌≤◌, Bool, true, false, cond, None, Ok, Err, List, [], ◌∷◌, ◌++◌, refl, sym, ap, ◌∙◌, arith, inl, inr}
 use Rattle.facts.proofs.ResultLaws.{bind_gave}
+use Rattle.std.proofs.lemmas.Bool.{cases_Bool}
 use Rattle.idl_parse.specs.Grammar.{Mark, VectorOf, MapOf, UnsignedOf, NamedOf, BasicOf, TypeOf}
 use Rattle.idl_parse.specs.KindSteps.{same_kind, holds, begins}
 use Rattle.idl_parse.specs.ReadSteps.{Stop, Read, one_at, mark_at, span_at, means_at, after_at, vector_at, map_at, flat_at, unsigned_at, named_at, scoped_at, basic_at, is_type_start, no_room_at, type_with, type_at}
@@ -16,7 +17,7 @@ use Rattle.idl_parse.specs.declared.token.Token.{Token}
 use Rattle.idl_parse.specs.declared.tree.type_tree.BasicType.TheVariants as basics
 use Rattle.idl_parse.specs.declared.tree.type_tree.TypeTree.{TypeTree}
 use Rattle.idl_parse.specs.declared.tree.type_tree.TypeTree.TheVariants as types
-use Rattle.idl_parse.proofs.Parsing.Combining.Choice.{one_kind, truth}
+use Rattle.idl_parse.proofs.Parsing.Combining.Choice.{one_kind}
 use Rattle.idl_parse.proofs.Parsing.Combining.Combine.{next, done, either, regroup, next_core, done_core, one_core, regroup_core, next_where}
 use Rattle.idl_parse.proofs.Parsing.Combining.Heads.{begins_is}
 use Rattle.idl_parse.proofs.Parsing.Combining.Leaves.{one, sample}
@@ -130,7 +131,7 @@ completed kinds.Ident start end is =
     (λ m tail free. rw (not_begun tail free) refl)
   where
     not_begun : (tail : List Token) → (starts (kinds.Sign PathSep ∷ []) tail ≡ true → ⊥) → begins (kinds.Sign PathSep) tail ≡ false
-    not_begun tail free = elim (truth (begins (kinds.Sign PathSep) tail)) [ inl b ↦ absurd (free (sym (begins_is (kinds.Sign PathSep) tail) ∙ b)) | inr b ↦ b ]
+    not_begun tail free = elim (cases_Bool (begins (kinds.Sign PathSep) tail)) [ inl b ↦ absurd (free (sym (begins_is (kinds.Sign PathSep) tail) ∙ b)) | inr b ↦ b ]
 completed _ start end is = cc
 
 abbrev read_ok : TypeTree → List Token → Read TypeTree

@@ -2,6 +2,7 @@
 use Rattle.std.proofs.Common.{◌≡◌, ℕ, zero, suc, ◌<◌, ◌≤◌, Bool, true, false, cond, Ok, Err, List, [], ◌∷◌, length, refl, ap, ◌∙◌, arith, inl, inr}
 use Rattle.facts.specs.ResultSteps.{◌>>=◌}
 use Rattle.facts.proofs.ResultLaws.{bind_assoc, bind_gave, bind_same_after}
+use Rattle.std.proofs.lemmas.Bool.{cases_Bool}
 use Rattle.idl_parse.specs.Grammar.{Mark, Number, Item}
 use Rattle.idl_parse.specs.KindSteps.{same_kind, holds, begins}
 use Rattle.idl_parse.specs.ReadSteps.{Read, mark_at, item_number_at, item_at, item_comma_at, items_at}
@@ -10,7 +11,7 @@ use Rattle.idl_parse.specs.declared.kind.Kind.TheVariants as kinds
 use Rattle.idl_parse.specs.declared.sign.Sign.TheVariants.{CloseBrace, Comma, Equals}
 use Rattle.idl_parse.specs.declared.token.Token.{Token}
 use Rattle.idl_parse.specs.declared.tree.decl.EnumItem.{EnumItem}
-use Rattle.idl_parse.proofs.Parsing.Combining.Choice.{choose, one_kind, truth, filled_by_first}
+use Rattle.idl_parse.proofs.Parsing.Combining.Choice.{choose, one_kind, filled_by_first}
 use Rattle.idl_parse.proofs.Parsing.Combining.Combine.{next, done, either, maybe}
 use Rattle.idl_parse.proofs.Parsing.Combining.InOrder.{then, in_order}
 use Rattle.idl_parse.proofs.Parsing.Combining.Leaves.{giving, single, one}
@@ -98,7 +99,7 @@ items_closed ts b = items_by_turn ts ∙ ap (λ t. cond t (mark_at CloseBrace ts
 
 after_item_turn : (m : ℕ) (item : EnumItem × List Token) → (after_item item >>= all_items) ≡ choose (kinds.Sign CloseBrace) (then (λ m. mark_at CloseBrace) (λ _. giving (item.0 ∷ []))) (then (λ m. mark_at Comma) (λ _. then (λ m. items_at) (λ xs. giving (item.0 ∷ xs)))) m item.1
 after_item_turn m item =
-    elim (truth (begins (kinds.Sign CloseBrace) item.1)) [
+    elim (cases_Bool (begins (kinds.Sign CloseBrace) item.1)) [
       | inl b ↦ rw (b, items_closed item.1 b) (bind_assoc (mark_at CloseBrace item.1) (λ close. Ok ([], close.1)) (λ items. Ok (item.0 ∷ items.0, items.1)))
       | inr b ↦ rw b (bind_assoc (mark_at Comma item.1) (λ comma. Ok (item.0, comma.1)) all_items)
     ]

@@ -17,7 +17,7 @@ use Rattle.idl_parse.specs.declared.keyword.Keyword.TheVariants as words
 use Rattle.idl_parse.specs.declared.kind.Kind.TheVariants as kinds
 use Rattle.idl_parse.proofs.Parsing.Repeating.Until.{item_shape}
 use Rattle.idl_parse.proofs.Parsing.Deriving.FileLaws.{after_entry, entry_shrinks, file_turn, file_nothing, file_goes_on, file_ends, file_halts, file_sound, file_complete, nothing_follows}
-use Rattle.idl_parse.proofs.Parsing.Combining.Heads.{bind_err, opened_append, shallow_append}
+use Rattle.idl_parse.proofs.Parsing.Combining.Heads.{bind_err, prefixes_join, opened_append, shallow_append}
 use Rattle.idl_parse.proofs.Parsing.Deriving.Productions.{entry}
 use Rattle.idl_parse.proofs.Parsing.Combining.Readers.{halted, too_deep, Kept}
 
@@ -59,9 +59,6 @@ file_halt : (n m : ℕ) (prefix : List Token) (t : Token) (others : List Token) 
 file_halt n zero prefix t others s le e = absurd (omega arith)
 file_halt n (suc m) prefix t others s le e = file_halts m prefix t others s e
 
-join : (a b mid rest ts : List Token) → ts ≡ a ++ mid → mid ≡ b ++ rest → ts ≡ (a ++ b) ++ rest
-join a b mid rest ts is is' = is ∙ ap (λ m. a ++ m) is' ∙ sym (append_assoc a b rest)
-
 stays_first : (n : ℕ) (ts left : List Token) → entry_at (suc n) ts ≡ halted left → FileStays (suc n) ts left
 stays_first n ts left e =
     let h = (entry (suc (length ts)) n).stays ts left (omega arith) e in
@@ -80,7 +77,7 @@ stays_second n ts left x mid e j =
     let h = (entry (suc (length ts)) n).keeps ts x mid (omega arith) e in
     record {
       prefix = h.prefix ++ j.prefix;
-      whole = join h.prefix j.prefix mid left ts h.whole j.whole;
+      whole = prefixes_join h.prefix j.prefix mid left ts h.whole j.whole;
       more = j.more;
       value = x ∷ j.value;
       fills = λ m lt.
@@ -147,7 +144,7 @@ deep_second n ts left x mid e j =
       prefix = h.prefix ++ j.prefix;
       next = j.next;
       others = j.others;
-      whole = join h.prefix j.prefix mid left ts h.whole j.whole;
+      whole = prefixes_join h.prefix j.prefix mid left ts h.whole j.whole;
       is = j.is;
       more = j.more;
       value = x ∷ j.value;
