@@ -1,7 +1,7 @@
 -- The test for an int, both ways.
 use Rattle.std.proofs.Common.{◌≡◌, ℤ, pos, negsuc, ◌<◌, ◌^◌, true, arith, ltb-true, lt-ltb}
 use Rattle.std.proofs.lemmas.Int.{ints}
-use Rattle.tars_model.specs.Fits.{IsInt, is_int}
+use Rattle.tars_model.specs.Ranges.{IsInt, is_int}
 
 pub int_test : (z : ℤ) → is_int z ≡ true → IsInt z
 int_test (pos n) h = let small : n < 2 ^ 31 = ltb-true n (2 ^ 31) h in (omega (arith, ints), omega (arith, ints))

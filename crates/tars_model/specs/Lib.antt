@@ -1,2 +1,7 @@
-pub mod Fits
+pub mod Declarations
+pub mod Ranges
 pub mod Members
+pub mod Names
+pub mod Schemas
+pub mod Types
+pub mod Values

@@ -1,5 +1,5 @@
 -- The members that stand for a call's arguments and for its reply (docs/PROTOCOL.md, "Bodies").
-use Rattle.std.specs.Prelude.{ℕ, ◌+◌, Bool, true, not, if◌then◌else◌, pos, Option, Some, None, List, [], ◌∷◌, ◌++◌}
+use Rattle.std.specs.Prelude.{ℕ, ◌+◌, ◌<◌, Bool, true, not, if◌then◌else◌, pos, Option, Some, None, List, [], ◌∷◌, ◌++◌}
 use Rattle.tars_model.specs.declared.func_desc.Direction.{Direction}
 use Rattle.tars_model.specs.declared.func_desc.Direction.TheVariants.{In, Out}
 use Rattle.tars_model.specs.declared.func_desc.FuncDesc.{FuncDesc}
@@ -38,3 +38,12 @@ returned (Some ty) = required 0 ty [] ∷ []
 
 abbrev pub reply_members_of : FuncDesc → List Member
 reply_members_of f = returned f.ret ++ params_from 1 Out f.params
+
+-- the tags of members rise
+abbrev pub IsBelowNext : ℕ → List Member → Type 0
+IsBelowNext tag [] = Unit {0}
+IsBelowNext tag (m ∷ ms) = tag < m.tag
+
+abbrev pub HaveRisingTags : List Member → Type 0
+HaveRisingTags [] = Unit {0}
+HaveRisingTags (m ∷ ms) = IsBelowNext m.tag ms × HaveRisingTags ms

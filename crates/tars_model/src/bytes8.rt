@@ -5,7 +5,7 @@ use std::marker::Model;
 use std::ops::DerefSlice;
 
 /// A string of bytes, which need not be text.
-#[derive(Debug, Drop)]
+#[derive(Drop)]
 pub struct Bytes8 {
     bytes: Vec<u8>,
 }

@@ -24,7 +24,7 @@ impl Direction {
 }
 
 /// A parameter of a function.
-#[derive(Debug, Drop)]
+#[derive(Drop)]
 pub struct Param {
     pub name: Name,
     pub ty: Ty,
@@ -48,7 +48,7 @@ impl Param {
 }
 
 /// A function of an interface.
-#[derive(Debug, Drop)]
+#[derive(Drop)]
 pub struct FuncDesc {
     pub name: Name,
     /// None for `void`.

@@ -1,7 +1,7 @@
 use crate::{FuncDesc, List, Name};
 
 /// An interface: the functions that a servant answers.
-#[derive(Debug, Drop)]
+#[derive(Drop)]
 pub struct InterfaceDesc {
     pub module: Name,
     pub name: Name,

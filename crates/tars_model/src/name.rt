@@ -5,7 +5,7 @@ use std::marker::Model;
 use std::ops::DerefSlice;
 
 /// The name of something that an interface file or a script names, as it is written there.
-#[derive(Debug, Drop)]
+#[derive(Drop)]
 pub struct Name {
     bytes: Vec<u8>,
 }
