@@ -5,7 +5,7 @@ use Rattle.std.proofs.lemmas.Nat.{div-mul-add, mod-mul-add}
 use Rattle.wire_words.specs.Spelling.{head}
 use Rattle.tars_codec.specs.declared.head.Head.{Head}
 use Rattle.tars_codec.specs.declared.wire_type.WireType.{WireType}
-use Rattle.tars_codec.specs.declared.wire_type.WireType.TheVariants.{Int1, Int2, Int4, Int8, String1, String4, Map, ZeroTag, SimpleList}
+use Rattle.tars_codec.specs.declared.wire_type.WireType.TheVariants.{Int1, Int2, Int4, Int8, String1, String4, Map, List as ListOf, StructBegin, StructEnd, ZeroTag, SimpleList}
 use Rattle.tars_codec.specs.WireType.{code_of, type_of}
 use Rattle.facts.specs.OptionSteps.{◌>>=◌}
 use Rattle.tars_codec.specs.Reading.{long_head_at, head_at, field_at}
@@ -18,6 +18,9 @@ code_below Int8 = omega arith
 code_below String1 = omega arith
 code_below String4 = omega arith
 code_below Map = omega arith
+code_below ListOf = omega arith
+code_below StructBegin = omega arith
+code_below StructEnd = omega arith
 code_below ZeroTag = omega arith
 code_below SimpleList = omega arith
 
@@ -30,6 +33,9 @@ type_of-code_of Int8 = refl
 type_of-code_of String1 = refl
 type_of-code_of String4 = refl
 type_of-code_of Map = refl
+type_of-code_of ListOf = refl
+type_of-code_of StructBegin = refl
+type_of-code_of StructEnd = refl
 type_of-code_of ZeroTag = refl
 type_of-code_of SimpleList = refl
 

@@ -4,9 +4,9 @@ pub mod Shortest
 pub mod Fields
 pub mod Contents
 pub mod Layers
+pub mod Fitting
+pub mod Pieces
 pub mod Maps
 pub mod Values
 pub mod Loops
-pub mod Entries
-pub mod Members
 pub mod CallerLemmas

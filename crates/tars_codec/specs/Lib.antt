@@ -1,3 +1,4 @@
 pub mod WireType
 pub mod Written
+pub mod PacketTypes
 pub mod Reading

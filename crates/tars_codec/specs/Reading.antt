@@ -7,7 +7,7 @@ use Rattle.tars_model.specs.declared.ty.Ty.TheOpen as ty
 use Rattle.tars_model.specs.declared.value.Value.{Value, Num, Text, Blob, Map}
 use Rattle.tars_model.specs.declared.value.Pair.{Pair, roll-Pair}
 use Rattle.tars_model.specs.declared.member.Member.{Member}
-use Rattle.tars_model.specs.Fits.{TyLayer}
+use Rattle.tars_model.specs.Types.{TyLayer}
 use Rattle.tars_codec.specs.declared.head.Head.{Head}
 use Rattle.tars_codec.specs.declared.wire_type.WireType.{WireType}
 use Rattle.tars_codec.specs.declared.wire_type.WireType.TheVariants as wire
@@ -132,7 +132,7 @@ map_at _ bytes = None
 abbrev pub as_value : {A : Type 0} → (A → Value) → A × List ℕ → Option (Value × List ℕ)
 as_value make read = Some (make read.0, read.1)
 
--- the contents of a value of a type
+-- the contents of a value of a packet's type
 unfoldable pub value_at : TyLayer → WireType → List ℕ → Option (Value × List ℕ)
 value_at ty.Byte wire_type bytes = number_at wire_type bytes >>= as_value Num
 value_at ty.Short wire_type bytes = number_at wire_type bytes >>= as_value Num
@@ -140,6 +140,7 @@ value_at ty.Int wire_type bytes = number_at wire_type bytes >>= as_value Num
 value_at ty.Text wire_type bytes = text_at wire_type bytes >>= as_value Text
 value_at (ty.Vector of) wire_type bytes = blob_at wire_type bytes >>= as_value Blob
 value_at (ty.Map of to) wire_type bytes = map_at wire_type bytes >>= as_value Map
+value_at _ wire_type bytes = None
 
 unfoldable pub member_at : Member → List ℕ → Option (Value × List ℕ)
 member_at m bytes = do

@@ -1,58 +1,94 @@
 -- What is written for values (docs/PROTOCOL.md, "Writing").
-use Rattle.std.specs.Prelude.{◌≡◌, ℕ, nat_le, if◌then◌else◌, List, [], ◌∷◌, length, map as map_list, Result, IfOk}
+use Rattle.std.specs.Prelude.{◌≡◌, ℕ, nat_le, Bool, true, false, if◌then◌else◌, ℤ, pos, List, [], ◌∷◌, length, map as map_list, Result, IfOk}
+use Rattle.tars_model.specs.Declarations.{Declared, members_at}
+use Rattle.tars_model.specs.Types.{TyLayer}
+use Rattle.tars_model.specs.Values.{fit_members}
+use Rattle.tars_model.specs.declared.member.Member.{Member}
+use Rattle.tars_model.specs.declared.ty.Ty.{Ty, out-Ty}
+use Rattle.tars_model.specs.declared.ty.Ty.TheOpen as ty
 use Rattle.tars_model.specs.declared.value.Value.{Value, fold-Value}
 use Rattle.tars_model.specs.declared.value.Value.TheOpen as value
 use Rattle.tars_model.specs.declared.value.Pair.{Pair, Pair-F, fold-Pair}
-use Rattle.tars_model.specs.declared.member.Member.{Member}
-use Rattle.tars_model.specs.Fits.{FitMembers}
-use Rattle.wire_words.specs.Tree.{WireValue, whole, string1, string4, simple_list, map, WirePairs, no_pairs, pair, WireFields, no_fields, field}
+use Rattle.wire_words.specs.Tree.{WireValue, whole, string1, string4, simple_list, list, map, struct, WireValues, no_values, value as element, WirePairs, no_pairs, pair, WireFields, no_fields, field}
 use Rattle.wire_words.specs.Spelling.{shortest, spelled_fields}
+
+-- what stands for a value, over what is declared and under its type
+abbrev pub Writing : Type 0
+Writing = Declared → Ty → WireValue
+
+-- false is 0 and true is 1
+abbrev pub bool_number : Bool → ℤ
+bool_number false = pos 0
+bool_number true = pos 1
 
 -- a text's length takes one byte where it can
 abbrev pub wire_text : List ℕ → WireValue
 wire_text bytes = if nat_le (length bytes) 255 then string1 bytes else string4 bytes
 
-abbrev pub wire_pairs : List (WireValue × WireValue) → WirePairs
-wire_pairs [] = no_pairs
-wire_pairs (p ∷ ps) = pair p.0 p.1 (wire_pairs ps)
+-- values of one type
+abbrev pub wire_elements : Declared → Ty → List Writing → WireValues
+wire_elements d of [] = no_values
+wire_elements d of (v ∷ vs) = element (v d of) (wire_elements d of vs)
 
--- what stands for a value, where its keys and values stand already
-abbrev pub wire_layer : value.Value-F WireValue (WireValue × WireValue) → WireValue
-wire_layer (value.Num n) = whole (shortest n)
-wire_layer (value.Text bytes) = wire_text bytes
-wire_layer (value.Blob bytes) = simple_list bytes
-wire_layer (value.Map pairs) = map (wire_pairs pairs)
+-- entries with keys of one type and values of one type
+abbrev pub wire_entries : Declared → Ty → Ty → List (Writing × Writing) → WirePairs
+wire_entries d key to [] = no_pairs
+wire_entries d key to (p ∷ ps) = pair (p.0 d key) (p.1 d to) (wire_entries d key to ps)
 
-abbrev pub wire_pair : Pair-F WireValue (WireValue × WireValue) → WireValue × WireValue
+-- values of members, each under its member's tag
+abbrev pub wire_members : Declared → List Member → List Writing → WireFields
+wire_members d (m ∷ ms) (v ∷ vs) = field m.tag (v d m.ty) (wire_members d ms vs)
+wire_members d _ _ = no_fields
+
+-- the values of a vector that is no `vector<byte>`
+abbrev pub wire_list : List Writing → Declared → TyLayer → WireValue
+wire_list vs d (ty.Vector of) = list (wire_elements d of vs)
+wire_list vs d _ = list no_values
+
+-- the entries of a map
+abbrev pub wire_map : List (Writing × Writing) → Declared → TyLayer → WireValue
+wire_map ps d (ty.Map key to) = map (wire_entries d key to ps)
+wire_map ps d _ = map no_pairs
+
+-- a struct's fields have the tags of its members
+abbrev pub wire_struct : List Writing → Declared → TyLayer → WireValue
+wire_struct vs d (ty.Struct number) = struct (wire_members d (members_at d number) vs)
+wire_struct vs d _ = struct no_fields
+
+-- what stands for a value, given what stands for those inside it
+abbrev pub wire_layer : value.Value-F Writing (Writing × Writing) → Writing
+wire_layer (value.Bool b) d t = whole (shortest (bool_number b))
+wire_layer (value.Num n) d t = whole (shortest n)
+wire_layer (value.Text bytes) d t = wire_text bytes
+wire_layer (value.Blob bytes) d t = simple_list bytes
+wire_layer (value.List vs) d t = wire_list vs d (out-Ty t)
+wire_layer (value.Map ps) d t = wire_map ps d (out-Ty t)
+wire_layer (value.Struct vs) d t = wire_struct vs d (out-Ty t)
+
+abbrev pub wire_pair : Pair-F Writing (Writing × Writing) → Writing × Writing
 wire_pair p = (p.key, p.value)
 
 -- what stands for a value: whole numbers in the shortest kind that holds them
-unfoldable pub wire_value : Value → WireValue
-wire_value v = fold-Value WireValue (WireValue × WireValue) wire_layer wire_pair v
+unfoldable pub wire_value : Value → Writing
+wire_value v = fold-Value Writing (Writing × Writing) wire_layer wire_pair v
 
--- what stands for an entry of a map
-unfoldable pub wire_entry : Pair → WireValue × WireValue
-wire_entry p = fold-Pair WireValue (WireValue × WireValue) wire_layer wire_pair p
-
--- what stands for a map
-abbrev pub wire_map : List Pair → WireValue
-wire_map pairs = map (wire_pairs (map_list wire_entry pairs))
+-- what stands for the key and the value of an entry
+unfoldable pub wire_entry : Pair → Writing × Writing
+wire_entry p = fold-Pair Writing (Writing × Writing) wire_layer wire_pair p
 
 -- every member, under its tag
-abbrev pub fields_of : List Member → List Value → WireFields
-fields_of [] values = no_fields
-fields_of (m ∷ ms) [] = no_fields
-fields_of (m ∷ ms) (v ∷ vs) = field m.tag (wire_value v) (fields_of ms vs)
+abbrev pub fields_of : Declared → List Member → List Value → WireFields
+fields_of d members values = wire_members d members (map_list wire_value values)
 
 -- the one spelling of values under members
-unfoldable pub written : List Member → List Value → List ℕ
-written members values = spelled_fields (fields_of members values)
+unfoldable pub written : Declared → List Member → List Value → List ℕ
+written d members values = spelled_fields (fields_of d members values)
 
 -- bytes were written for some values under the members
-abbrev pub WereWritten : List Member → List ℕ → Type 0
-WereWritten members bytes = (values : List Value) × FitMembers members values × (bytes ≡ written members values)
+abbrev pub WereWritten : Declared → List Member → List ℕ → Type 0
+WereWritten d members bytes = (values : List Value) × (fit_members d members values ≡ true) × (bytes ≡ written d members values)
 
 -- the values that bytes were written for are what is read, unless there is an error
-abbrev pub ReadsWritten : {E : Type 0} → List Member → List ℕ → Result (List Value) E → Type 0
-ReadsWritten members bytes result =
-    (values : List Value) → FitMembers members values → bytes ≡ written members values → IfOk result (λ read. read ≡ values)
+abbrev pub ReadsWritten : {E : Type 0} → Declared → List Member → List ℕ → Result (List Value) E → Type 0
+ReadsWritten d members bytes result =
+    (values : List Value) → fit_members d members values ≡ true → bytes ≡ written d members values → IfOk result (λ read. read ≡ values)

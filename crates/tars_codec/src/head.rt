@@ -4,7 +4,7 @@ use crate::wire_type::WireType;
 pub const LONG_FORM: u8 = 15;
 
 /// How a field begins (docs/PROTOCOL.md, "Heads").
-#[derive(Clone, Copy, Debug)]
+#[derive(Clone, Copy)]
 pub struct Head {
     pub tag: u8,
     pub wire_type: WireType,

@@ -1,5 +1,6 @@
-//! Values as fields on the wire, and back. `encode` writes the one spelling that
-//! `specs/Written.antt` states, and `decode` gives the values that were written.
+//! Values as fields on the wire, and back. `encode` writes the one spelling of values of any type that
+//! `specs/Written.antt` states; the tags of a struct are those of the schema. `decode` gives the values that were
+//! written, where their types are those of packets (`specs/PacketTypes.antt`).
 #![tactic(auto)]
 
 mod head;

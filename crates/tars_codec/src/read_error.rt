@@ -4,7 +4,7 @@ ghost use Rattle.tars_codec.specs.declared.read_error.ReadError.TheVariants.{Mem
 use std::alloc::AllocError;
 
 /// Why a reader has no value.
-#[derive(Clone, Copy, Debug)]
+#[derive(Clone, Copy)]
 pub enum ReadError {
     Memory,
     /// The bytes spell no field of the wanted tag and type.

@@ -1,6 +1,8 @@
 ghost use Rattle.std.specs.Prelude.{◌≡◌};
+ghost use Rattle.std.specs.List.{All};
+ghost use Rattle.tars_model.specs.Members.{HaveRisingTags};
 ghost use Rattle.tars_model.specs.declared.ty.Ty.{out-Ty};
-ghost use Rattle.tars_model.specs.Fits.{HaveRisingTags};
+ghost use Rattle.tars_codec.specs.PacketTypes.{IsPacketMember};
 ghost use Rattle.tars_codec.specs.Written.{WereWritten, ReadsWritten};
 ghost use Rattle.tars_codec.specs.Reading.{Gives, text_field_at, pair_at, pairs_at, map_at, value_at, member_at, values_at, body_at};
 
@@ -66,7 +68,7 @@ fn read_map(
     read_pairs(alloc, count, rest)
 }
 
-/// The contents of a value of the type.
+/// The contents of a value of a packet's type.
 #[tactic(auto, unfolding(crate::specs::Reading::value_at))]
 fn read_value<'a>(
     alloc: Global,
@@ -93,6 +95,7 @@ fn read_value<'a>(
             let (pairs, rest) = read_map(alloc, wire_type, bytes)?;
             Ok((Value::Map(pairs), rest))
         }
+        _ => Err(ReadError::Malformed),
     }
 }
 
@@ -139,16 +142,17 @@ fn read_body(alloc: Global, members: &[Member], bytes: &[u8]) -> Result<Listed<V
     Ok(values)
 }
 
-/// The values that a body spells under the members.
+/// The values that a body spells under members of packets' types.
 pub fn decode(
     alloc: Global,
-    _schema: &Schema,
+    schema: &Schema,
     members: &[Member],
     bytes: &[u8],
 ) -> Result<Listed<Value>, Refuse>
     requires rising { HaveRisingTags members.now }
-    requires written { WereWritten members.now bytes.now }
-    ensures { ReadsWritten members.now bytes.now result }
+    requires types { All IsPacketMember members.now }
+    requires written { WereWritten schema.now members.now bytes.now }
+    ensures { ReadsWritten schema.now members.now bytes.now result }
 {
     match read_body(alloc, members, bytes) {
         Ok(values) => Ok(values),

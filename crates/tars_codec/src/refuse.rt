@@ -1,5 +1,5 @@
 /// Why bytes were not decoded.
-#[derive(Clone, Copy, Debug, PartialEq, Eq)]
+#[derive(Clone, Copy, PartialEq, Eq)]
 pub enum Refuse {
     /// Memory ran out.
     Memory,

@@ -10,7 +10,7 @@ pub const LONG_FORM: u8 = 15;
 pub const MAX_FIELD_TAG: u8 = u8::MAX;
 
 /// How a field begins: its tag, and how its contents are spelled.
-#[derive(Clone, Copy, Debug, PartialEq, Eq)]
+#[derive(Clone, Copy, PartialEq, Eq)]
 pub struct Head {
     pub tag: u8,
     pub kind: WireType,

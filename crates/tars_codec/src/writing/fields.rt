@@ -1,8 +1,8 @@
 ghost use Rattle.std.specs.Prelude.{◌≡◌, ◌<◌, ◌^◌, ◌++◌, length, OnOk};
-ghost use Rattle.wire_words.specs.Tree.{simple_list};
-ghost use Rattle.wire_words.specs.Spelling.{head, spelled_size, spelled};
+ghost use Rattle.wire_words.specs.Tree.{whole, simple_list};
+ghost use Rattle.wire_words.specs.Spelling.{head, shortest, spelled_size, spelled};
 ghost use Rattle.tars_codec.specs.WireType.{code_of};
-ghost use Rattle.tars_codec.specs.Written.{wire_text};
+ghost use Rattle.tars_codec.specs.Written.{bool_number, wire_text};
 
 use super::numbers::put_number;
 use crate::head::LONG_FORM;
@@ -21,7 +21,14 @@ pub fn put_head(out: &mut BytesMut, tag: u8, wire_type: WireType) -> Result<(), 
     out.put_u8(tag)
 }
 
-/// The size of a simple list or a map.
+/// A bool, as the number 0 or 1.
+pub fn put_bool(out: &mut BytesMut, tag: u8, value: bool) -> Result<(), AllocError>
+    ensures { OnOk result (out.new.items ≡ out.old.items ++ spelled tag (whole (shortest (bool_number value)))) }
+{
+    put_number(out, tag, if value { 1 } else { 0 })
+}
+
+/// The size of a simple list, a list or a map.
 #[tactic(auto, unfolding(wire_words::specs::Spelling::spelled_size))]
 pub fn put_size(out: &mut BytesMut, size: usize) -> Result<(), AllocError>
     requires { size < 2 ^ 31 }

@@ -1,57 +1,46 @@
-use Rattle.std.proofs.Common.{length, sym, ap, ◌++◌, ◌∙◌, append_assoc, rules}
-use Rattle.std.specs.Prelude.{FitsSigned}
-use Rattle.std.specs.Int.{w64}
+use Rattle.std.proofs.Common.{rules}
+use Rattle.std.proofs.lemmas.Slice.Zip.{either_empty_from_Zip}
+use Rattle.std.specs.Iterator.Adapters.{zip_first, zip_second}
+use Rattle.std.specs.Slice.Iter.{iter_rest}
 use Rattle.tars_model.specs.declared.value.Value.TheFolds.{the_lemmas}
-use Rattle.wire_words.specs.Spelling.{head, spelled, spelled_size}
-use Rattle.tars_codec.specs.Written.{wire_map}
-use Rattle.tars_codec.proofs.Layers.{num_spelled, text_spelled, blob_spelled, map_spelled}
-use Rattle.tars_codec.proofs.Maps.{count_wire_pairs}
-use Rattle.tars_codec.proofs.Entries.{next_entry, spelled_entries, entries_go_on, entries_are_written}
+use Rattle.tars_codec.proofs.Fitting.{entry_key_fits, entry_value_fits, list_fits, map_fits, struct_fits}
+use Rattle.tars_codec.proofs.Layers.{wire_entry_out}
+use Rattle.tars_codec.proofs.Pieces.{list_written, map_written, members_are_written}
 use Rattle.tars_codec.proofs.writing.+values.Goals as goal
 
-pub put_map-loop-pair-init : goal.put_map-loop-pair-init
-put_map-loop-pair-init t c =
-    let out = c.args.out.now.items in
-    let first = head c.args.tag 8 in
-    let size = spelled_size (length c.args.pairs.now) in
-    let entries = spelled_entries c.args.pairs.now in
-    record {
-      texts = (c.requires.1.0, c.requires.1.1);
-      so_far = rw (c.in_ok-put_size.ensures, c.in_ok-put_head.ensures, count_wire_pairs c.args.pairs.now) (append_assoc (out ++ first) size entries ∙ append_assoc out first (size ++ entries) ∙ ap (λ x. out ++ x) (sym (append_assoc first size entries)));
-    }
+pub put_elements-returns : goal.put_elements-returns
+put_elements-returns t c =
+    rw (← list_written c.args.schema.now c.args.of.now c.args.values.now c.args.tag c.args.out.now.items c.put_head.new.out.items c.put_size.new.out.items c.in_ok-put_head.ensures c.in_ok-put_size.ensures) c.put_values.ensures
 
-pub put_map-put_value-requires : goal.put_map-put_value-requires
-put_map-put_value-requires t c =
-    (search (rules, the_lemmas), (next_entry c.args.pairs.now c.loop-pair.pair-index c.pair-item.result c.loop-pair-test.true c.pair-item.is c.loop-pair.invariant.texts).key)
+pub put_entries-returns : goal.put_entries-returns
+put_entries-returns t c =
+    rw (← map_written c.args.schema.now c.args.key.now c.args.to.now c.args.pairs.now c.args.tag c.args.out.now.items c.put_head.new.out.items c.put_size.new.out.items c.in_ok-put_head.ensures c.in_ok-put_size.ensures) c.put_pairs.ensures
 
-pub put_map-put_value-requires-in-loop-pair : goal.put_map-put_value-requires-in-loop-pair
-put_map-put_value-requires-in-loop-pair t c =
-    (search (rules, the_lemmas), (next_entry c.args.pairs.now c.loop-pair.pair-index c.pair-item.result c.loop-pair-test.true c.pair-item.is c.loop-pair.invariant.texts).value)
+pub put_entry-put_value-requires : goal.put_entry-put_value-requires
+put_entry-put_value-requires t c =
+    (search (rules, the_lemmas), entry_key_fits c.args.schema.now c.args.key.now c.args.to.now c.args.pair.now c.requires)
 
-pub put_map-loop-pair-preserved : goal.put_map-loop-pair-preserved
-put_map-loop-pair-preserved t c =
-    record {
-      texts = (next_entry c.args.pairs.now c.loop-pair.pair-index c.pair-item.result c.loop-pair-test.true c.pair-item.is c.loop-pair.invariant.texts).rest;
-      so_far = rw (c.in_ok-put_value-2.ensures, c.in_ok-put_value.ensures) (entries_go_on c.args.pairs.now c.loop-pair.pair-index c.pair-item.result c.loop-pair.out.items (c.args.out.now.items ++ spelled c.args.tag (wire_map c.args.pairs.now)) c.loop-pair-test.true c.pair-item.is c.loop-pair.invariant.so_far);
-    }
+pub put_entry-put_value-requires-2 : goal.put_entry-put_value-requires-2
+put_entry-put_value-requires-2 t c =
+    (search (rules, the_lemmas), entry_value_fits c.args.schema.now c.args.key.now c.args.to.now c.args.pair.now c.requires)
 
-pub put_map-returns : goal.put_map-returns
-put_map-returns t c =
-    entries_are_written c.args.pairs.now c.loop-pair.pair-index c.loop-pair.out.items (c.args.out.now.items ++ spelled c.args.tag (wire_map c.args.pairs.now)) c.loop-pair-test.false c.loop-pair.invariant.so_far
+pub put_entry-returns : goal.put_entry-returns
+put_entry-returns t c =
+    rw (wire_entry_out c.args.pair.now, ← c.in_ok-put_value.ensures) c.put_value-2.ensures
 
-pub put_value-returns-in-Num : goal.put_value-returns-in-Num
-put_value-returns-in-Num t c =
-    let fits : FitsSigned w64 c.in-Num.number = search rules in
-    rw (num_spelled c.args.value.now c.in-Num.number c.args.tag c.in-Num.is fits) c.put_number.ensures
+pub put_members-returns : goal.put_members-returns
+put_members-returns t c =
+    let s = c.loop-member.member-iterator in
+    members_are_written c.args.schema.now (iter_rest (zip_first s)) (iter_rest (zip_second s)) c.loop-member.out.items _ (either_empty_from_Zip s c.next.new.self c.next.result c.in-None.is c.next.ensures.steps) c.loop-member.invariant.so_far
 
-pub put_value-returns-in-Text : goal.put_value-returns-in-Text
-put_value-returns-in-Text t c =
-    rw (text_spelled c.args.value.now c.in-Text.text c.args.tag c.in-Text.is, ← c.deref.ensures) c.put_text.ensures
+pub put_value-put_list-requires : goal.put_value-put_list-requires
+put_value-put_list-requires t c =
+    (search (rules, the_lemmas), rw (c.as_slice.ensures) (list_fits c.args.value.now c.args.schema.now c.args.ty.now c.in-List.values c.in-List.is c.requires))
 
-pub put_value-returns-in-Blob : goal.put_value-returns-in-Blob
-put_value-returns-in-Blob t c =
-    rw (blob_spelled c.args.value.now c.in-Blob.bytes c.args.tag c.in-Blob.is, ← c.deref-in-Blob.ensures) c.put_blob.ensures
+pub put_value-put_map-requires : goal.put_value-put_map-requires
+put_value-put_map-requires t c =
+    (search (rules, the_lemmas), rw (c.as_slice-in-Map.ensures) (map_fits c.args.value.now c.args.schema.now c.args.ty.now c.in-Map.pairs c.in-Map.is c.requires))
 
-pub put_value-returns-in-Map : goal.put_value-returns-in-Map
-put_value-returns-in-Map t c =
-    rw (map_spelled c.args.value.now c.in-Map.pairs c.args.tag c.in-Map.is, ← c.as_slice.ensures) c.put_map.ensures
+pub put_value-put_struct-requires : goal.put_value-put_struct-requires
+put_value-put_struct-requires t c =
+    (search (rules, the_lemmas), rw (c.as_slice-in-Struct.ensures) (struct_fits c.args.value.now c.args.schema.now c.args.ty.now c.in-Struct.values c.in-Struct.is c.requires))
