@@ -2,5 +2,6 @@
 pub mod FileWalks
 pub mod IncludeLaws
 pub mod NestingLaws
+pub mod TypeNesting
 pub mod TypeWalks
 pub mod Walks

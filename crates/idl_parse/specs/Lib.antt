@@ -10,6 +10,8 @@ pub mod KindSteps
 pub mod LexAnswers
 pub mod LexSteps
 pub mod LexWhy
+pub mod Meanings
+pub mod Nesting
 pub mod ParseWhy
 pub mod Parsed
 pub mod ReadSteps

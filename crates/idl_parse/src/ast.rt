@@ -4,6 +4,7 @@ ghost use Rattle.idl_parse.specs.Depth.{Shallow};
 ghost use Rattle.idl_parse.specs.Files.{IsFileText, include_spans, IsInclude};
 ghost use Rattle.idl_parse.specs.Grammar.{nesting_limit, IsFile};
 ghost use Rattle.idl_parse.specs.Faults.{IsFault};
+ghost use Rattle.idl_parse.specs.Nesting.{EntryNests};
 ghost use Rattle.idl_parse.specs.Parsed.{IsFaultOf, IsRead, IsRefused, HasFault};
 ghost use Rattle.idl_parse.specs.TreeSpans.{EntryIn};
 ghost use Rattle.idl_parse.specs.Tokens.{Tokens as TokensOf};
@@ -69,6 +70,8 @@ impl Ast {
         ensures file { IsFileText self.now.text self.now.entries }
         // Each part of the tree is the span of a token of its kind.
         ensures spans { All (EntryIn self.now.text) self.now.entries }
+        // No type of the tree stands inside more others than the grammar lets it.
+        ensures nested { All (EntryNests nesting_limit) self.now.entries }
     {
         self.entries.as_slice()
     }

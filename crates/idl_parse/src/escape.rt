@@ -3,6 +3,7 @@
 ghost use Rattle.std.specs.Prelude.{◌≡◌, ◌<◌, ◌≤◌, ◌-◌, [], ◌++◌, length, slice_range, IfOk, OnOk};
 ghost use Rattle.idl_parse.specs.Bytes.{escaped};
 ghost use Rattle.idl_parse.specs.EscapeSteps.{hex_value, escape_step, given as given_by, unescaped};
+ghost use Rattle.idl_parse.specs.Meanings.{plain_text};
 ghost use Rattle.idl_parse.specs.Texts.{IsTextPrefix, TextSpells};
 
 use std::alloc::{AllocError, Global};
@@ -93,9 +94,10 @@ fn between_quotes(word: &[u8]) -> &[u8]
 }
 
 /// The bytes that a text in quotes spells, escapes replaced (docs/IDL.md, "Texts").
-pub fn spelled(alloc: Global, word: &[u8]) -> Result<Bytes8, AllocError>
+pub fn plain_text(alloc: Global, word: &[u8]) -> Result<Bytes8, AllocError>
     requires { IsTextPrefix word.now [] }
-    ensures { IfOk result (λ bytes. TextSpells bytes word.now []) }
+    ensures spells { IfOk result (λ bytes. TextSpells bytes word.now []) }
+    ensures is { IfOk result (λ bytes. bytes ≡ plain_text word.now) }
 {
     unescaped(alloc, between_quotes(word))
 }

@@ -5,7 +5,7 @@ ghost use Rattle.std.specs.List.{All};
 ghost use Rattle.idl_parse.specs.Files.{include_spans, AllSpell};
 ghost use Rattle.idl_parse.specs.TreeSpans.{EntryIn};
 
-use crate::escape::spelled;
+use crate::escape::plain_text;
 use crate::tree::Entry;
 use std::alloc::{AllocError, Global};
 use tars_model::{Bytes8, List};
@@ -21,7 +21,7 @@ fn add_name(
     ensures { OnOk result ((added : Listed (Listed ℕ)) × (names.new ≡ names.old ++ added) × AllSpell text.now (include_spans (entry.now ∷ [])) added) }
 {
     if let Entry::Include(span) = entry {
-        names.push(spelled(alloc, span.slice(text))?)?;
+        names.push(plain_text(alloc, span.slice(text))?)?;
     }
     Ok(())
 }

@@ -4,8 +4,9 @@
 //!
 //! Read `specs/Forms.antt` and `specs/Tokens.antt` first, which say what tokens and fault a text has, then
 //! `specs/Grammar.antt`, which has the productions, `specs/Faults.antt`, which says what fault tokens have,
-//! and `specs/Files.antt` and `specs/TreeSpans.antt`, which say what holds of a file that is read. The modules
-//! named `*Steps` follow the code's steps and are for the proofs.
+//! `specs/Files.antt` and `specs/TreeSpans.antt`, which say what holds of a file that is read, and
+//! `specs/Meanings.antt`, which says what numbers and texts mean. The modules named `*Steps` follow the code's
+//! steps and are for the proofs.
 #![tactic(auto)]
 
 mod ast;
@@ -31,11 +32,12 @@ mod trivia;
 mod words;
 
 pub use ast::{Ast, one_tree, parse};
-pub use escape::spelled;
+pub use escape::plain_text;
 pub use keyword::Keyword;
 pub use kind::Kind;
 pub use lex_fault::{LexFault, LexWhy};
 pub use lexer::{lex, one_outcome};
+pub use numbers::whole_number;
 pub use parse_fault::{ParseFault, ParseWhy};
 pub use sign::Sign;
 pub use span::Span;

@@ -1,4 +1,5 @@
 -- Texts in quotes.
 pub mod EscapeLaws
+pub mod EscapeLengths
 pub mod TextLaws
 pub mod TextOutcomes

@@ -6,7 +6,7 @@ use Rattle.std.specs.Char.{digit_value}
 use Rattle.std.specs.Str.Parse.{digits_value, digits_value_after}
 use Rattle.idl_parse.specs.LexSteps.{is_at_most}
 use Rattle.idl_parse.proofs.Lexing.Numbers.DigitLaws.{le-digits_value_after}
-use Rattle.idl_parse.proofs.numbers.is_at_most.Goals as goal
+use Rattle.idl_parse.proofs.numbers.value_at_most.Goals as goal
 
 pub returns-then-next-from : goal.returns-then-next-from
 unfolding is_at_most

@@ -2,7 +2,7 @@ use Rattle.std.proofs.Common.{◌≡◌, ◌≤◌, drop}
 use Rattle.std.specs.List.{list_all}
 use Rattle.std.specs.Char.{is_digit}
 use Rattle.std.specs.Str.Parse.{digits_value, digits_value_after}
-use Rattle.idl_parse.proofs.numbers.is_at_most.Given as goal
+use Rattle.idl_parse.proofs.numbers.value_at_most.Given as goal
 
 abbrev pub invariant-digits : goal.invariant-digits
 invariant-digits l =
