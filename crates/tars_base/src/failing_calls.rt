@@ -5,7 +5,7 @@ ghost use Rattle.tars_base.specs.Causes.{Rose};
 use std::marker::Model;
 
 /// Calls that are counted from 1, of which those of some numbers are to fail.
-#[derive(Debug, Drop)]
+#[derive(Drop)]
 pub(crate) struct FailingCalls {
     numbers: Vec<u64>,
     made: u64,

@@ -5,6 +5,9 @@ ghost use Rattle.tars_base.specs.Contents.{Contents, IsPrefixOfFile};
 use crate::ReadFault;
 use std::alloc::Global;
 
+/// How many bytes a file may have that the program reads.
+pub const MAX_FILE: usize = 1_048_576;
+
 /// Files that are read whole, or up to a length.
 pub trait Files {
     /// What the files hold, where that is told.

@@ -17,7 +17,7 @@ mod sink;
 mod status;
 
 pub use fault::{Failed, Memory, ReadFault};
-pub use files::Files;
+pub use files::{Files, MAX_FILE};
 pub use mem_files::MemFiles;
 pub use mem_sink::MemSink;
 pub use named_file::NamedFile;

@@ -10,7 +10,7 @@ use std::alloc::Global;
 use std::marker::Model;
 
 /// Files in memory. Of two files of one name the first is read.
-#[derive(Debug, Drop)]
+#[derive(Drop)]
 pub struct MemFiles {
     items: Vec<NamedFile>,
     reads: FailingCalls,

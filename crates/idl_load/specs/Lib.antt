@@ -1,0 +1,4 @@
+pub mod FileText
+pub mod Loading
+pub mod LoadAnswers
+pub mod LoadSteps
