@@ -7,15 +7,11 @@ use crate::lines::Lines;
 use session_model::{CallId, Loaded, PickNote, Row};
 use std::alloc::AllocError;
 
-/// The name of a function of the caller's interface, and none where it has no such function.
+/// The name of a function of the interface, and none where it has no such function.
 fn func_name(loaded: &Loaded, func: u32) -> &[u8]
     ensures { result.now ≡ (func_of loaded.now func).name }
 {
-    let interfaces = loaded.client.interfaces.as_slice();
-    let Some(interface) = interfaces.get(loaded.client_interface as usize) else {
-        return &[];
-    };
-    match interface.funcs.as_slice().get(func as usize) {
+    match loaded.interface.funcs.as_slice().get(func as usize) {
         Some(func) => func.name.as_slice(),
         None => &[],
     }
@@ -37,11 +33,11 @@ impl Lines {
         ensures { OnOk result (self.new ≡ self.old ++ call_line loaded.now row.now) }
     {
         let (call, line, end) = (row.call, row.line, &row.end);
-        self.show(format_args!("call {call} line {line} "))?;
-        self.put(func_name(loaded, row.func))?;
+        self.text.show(format_args!("call {call} line {line} "))?;
+        self.text.put(func_name(loaded, row.func))?;
         self.put_pick(&row.pick)?;
         self.put_id(&row.id)?;
-        self.show(format_args!(" {end}\n"))
+        self.text.show(format_args!(" {end}\n"))
     }
 
     #[tactic(auto, unfolding(crate::specs::ReportText::pick_text))]
@@ -49,7 +45,7 @@ impl Lines {
         ensures { OnOk result (self.new ≡ self.old ++ pick_text pick.now) }
     {
         match pick {
-            Some(PickNote { node, why }) => self.show(format_args!(" node {node} {why}")),
+            Some(PickNote { node, why }) => self.text.show(format_args!(" node {node} {why}")),
             None => Ok(()),
         }
     }
@@ -59,7 +55,7 @@ impl Lines {
         ensures { OnOk result (self.new ≡ self.old ++ id_text id.now) }
     {
         match id {
-            Some(CallId(id)) => self.show(format_args!(" id {id}")),
+            Some(CallId(id)) => self.text.show(format_args!(" id {id}")),
             None => Ok(()),
         }
     }
@@ -72,6 +68,6 @@ impl Lines {
         let calls = rows.len();
         let two_way = rows.iter().filter(|row| row.two_way).count();
         let one_way = rows.iter().filter(|row| !row.two_way).count();
-        self.show(format_args!("done calls {calls} two-way {two_way} one-way {one_way}\n"))
+        self.text.show(format_args!("done calls {calls} two-way {two_way} one-way {one_way}\n"))
     }
 }

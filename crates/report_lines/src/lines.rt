@@ -1,16 +1,15 @@
 ghost use Rattle.std.specs.Prelude.{◌≡◌, [], ◌++◌, OnOk};
-ghost use Rattle.std.specs.Fmt.{AppendsText};
 ghost use Rattle.hex.specs.Hex.{encode_upper};
 
 use std::alloc::{AllocError, Global};
-use std::fmt::Display;
 use std::marker::Model;
+use text_buffer::TextBuffer;
 
 /// The lines of a report so far.
 #[derive(Drop)]
 pub struct Lines {
     alloc: Global,
-    text: Vec<u8>,
+    pub text: TextBuffer,
 }
 
 impl Model for Lines {
@@ -18,7 +17,7 @@ impl Model for Lines {
 
     ghost Value = { List ℕ };
 
-    ghost view = { λ lines. lines.text.items };
+    ghost view = { λ lines. lines.text };
 }
 
 impl Lines {
@@ -27,7 +26,7 @@ impl Lines {
     {
         Lines {
             alloc,
-            text: Vec::new(alloc),
+            text: TextBuffer::new(alloc),
         }
     }
 
@@ -35,22 +34,7 @@ impl Lines {
         ensures { result.items ≡ self }
     {
         let Lines { alloc: _, text } = self;
-        text
-    }
-
-    /// Adds bytes as they are.
-    pub fn put(&mut self, bytes: &[u8]) -> Result<(), AllocError>
-        ensures { OnOk result (self.new ≡ self.old ++ bytes.now) }
-    {
-        self.text.extend_from_slice(bytes)
-    }
-
-    /// Adds what `{}` prints.
-    pub fn show<D: Display + Drop>(&mut self, value: D) -> Result<(), AllocError>
-        ensures { OnOk result (AppendsText self.old self.new (D.output value)) }
-    {
-        let text = value.to_string(self.alloc)?;
-        self.put(text.as_bytes())
+        text.into_bytes()
     }
 
     /// Adds bytes in hexadecimal.
@@ -58,6 +42,6 @@ impl Lines {
         ensures { OnOk result (self.new ≡ self.old ++ encode_upper bytes.now) }
     {
         let digits = hex::encode_upper(self.alloc, bytes)?;
-        self.put(digits.as_bytes())
+        self.text.put(digits.as_bytes())
     }
 }

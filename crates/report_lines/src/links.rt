@@ -63,9 +63,10 @@ impl Lines {
         ensures { OnOk result (self.new ≡ self.old ++ sent_line node number row.now) }
     {
         let call = row.call;
-        self.show(format_args!("sent {node} {number} call {call} "))?;
+        self.text
+            .show(format_args!("sent {node} {number} call {call} "))?;
         self.put_hex(row.frame.as_slice())?;
-        self.show("\n")
+        self.text.show("\n")
     }
 
     #[tactic(auto, unfolding(crate::specs::ReportText::got_line))]
@@ -78,11 +79,11 @@ impl Lines {
     ) -> Result<(), AllocError>
         ensures { OnOk result (self.new ≡ self.old ++ got_line rows.now node number row.now) }
     {
-        self.show(format_args!("got {node} {number} "))?;
+        self.text.show(format_args!("got {node} {number} "))?;
         self.put_fate(rows, row.fate)?;
-        self.show(" ")?;
+        self.text.show(" ")?;
         self.put_hex(row.packet.as_slice())?;
-        self.show("\n")
+        self.text.show("\n")
     }
 
     #[tactic(auto, unfolding(crate::specs::ReportText::fate_text))]
@@ -92,9 +93,9 @@ impl Lines {
         match fate {
             GotFate::Used { id } => {
                 let call = call_of(rows, id);
-                self.show(format_args!("used {call}"))
+                self.text.show(format_args!("used {call}"))
             }
-            GotFate::Late { .. } => self.show("late"),
+            GotFate::Late { .. } => self.text.show("late"),
         }
     }
 }
