@@ -15,7 +15,7 @@ use Rattle.script_text.specs.Words.{is_digit, is_natural, is_number, number_of, 
 use Rattle.script_text.specs.ScanSteps.{Gives}
 use Rattle.script_text.specs.NumberSteps.{natural, natural_within, number}
 use Rattle.script_text.specs.Reading.{int_of}
-use Rattle.tars_model.specs.Fits.{is_int}
+use Rattle.tars_model.specs.Ranges.{is_int}
 use Rattle.script_text.specs.ScanSteps.{utf8}
 use Rattle.script_text.proofs.Texts.{utf8_takes}
 use Rattle.script_text.proofs.Names.{lacks_from}

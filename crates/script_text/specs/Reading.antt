@@ -7,7 +7,7 @@ use Rattle.script_text.specs.declared.script.ScriptText.{ScriptText as ScriptStr
 use Rattle.script_text.specs.ScriptText.{EventText, ScriptText, object_id}
 use Rattle.script_text.specs.ScriptText as script
 use Rattle.script_text.specs.Words.{number_of}
-use Rattle.tars_model.specs.Fits.{is_int}
+use Rattle.tars_model.specs.Ranges.{is_int}
 
 -- the int that a number's text means, if it means one
 unfoldable pub int_of : List ℕ → Option ℤ

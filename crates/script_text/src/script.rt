@@ -26,7 +26,7 @@ pub use object::ObjectText;
 const MAX_CALLS: usize = 4096;
 
 /// What a script says.
-#[derive(Debug, Drop)]
+#[derive(Drop)]
 pub struct ScriptText<'a> {
     /// The name of the interface file.
     pub client: &'a str,

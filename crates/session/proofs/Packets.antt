@@ -1,4 +1,5 @@
 -- What is in the packets of a call, and that they are packets.
+pub mod Types
 pub mod Fits
 pub mod Framed
 pub mod FramesArePackets

@@ -3,7 +3,7 @@ use Rattle.std.specs.Prelude.{◌≡◌, ◌≢◌, ◌<◌, ◌≤◌, ◌+◌,
 use Rattle.std.specs.List.{filter_map}
 use Rattle.tars_model.specs.Members.{arguments_of, reply_members_of}
 use Rattle.tars_model.specs.declared.value.Value.{Num}
-use Rattle.tars_codec.specs.Written.{written}
+use Rattle.session.specs.Bodies.{body_of}
 use Rattle.session.specs.RpcPackets.{request_frame, response_frame}
 use Rattle.session_model.specs.Replies.{Reply, sum, code, reply_by}
 use Rattle.session_model.specs.Sessions.{WIDTH, NODE, LINK, live_node, func_of, node_of, rule_of}
@@ -123,7 +123,7 @@ request_of_call l spec id =
       id = id.0;
       servant = l.object.id;
       func = (func_of l spec.func).name;
-      body = written (arguments_of (func_of l spec.func)) spec.args;
+      body = body_of (arguments_of (func_of l spec.func)) spec.args;
       timeout = (node_of l).timeout;
     }
 
@@ -151,7 +151,7 @@ pub record CameIn (got : List GotRow) (row : Row) (packet : ℕ) (ret : ℤ) (bo
 -- values are what a packet says under the code 0, another code is a packet's own
 abbrev pub IsReplied : Loaded → List GotRow → Row → End → Type 0
 IsReplied l got row (ValueEnd link packet values) =
-    (link ≡ LINK) × CameIn got row packet (pos 0) (written (reply_members_of (func_of l row.func)) values)
+    (link ≡ LINK) × CameIn got row packet (pos 0) (body_of (reply_members_of (func_of l row.func)) values)
 IsReplied l got row (Code link packet ret) = (link ≡ LINK) × (ret ≢ pos 0) × CameIn got row packet ret []
 IsReplied l got row Closed = Unit {0}
 IsReplied l got row (Refused why) = Unit {0}

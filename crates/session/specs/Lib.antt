@@ -1,6 +1,7 @@
 pub mod Refusals
 pub mod InterfaceFile
 pub mod VerdictSteps
+pub mod Bodies
 pub mod RpcPackets
 pub mod Services
 pub mod Courses

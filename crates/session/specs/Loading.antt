@@ -16,8 +16,8 @@ use Rattle.session.specs.InterfaceFile.{InterfaceText, IsJudged}
 use Rattle.session.specs.InterfaceFile as verdict
 use Rattle.session.specs.Refusals.{refusal_line, script_fault, file_fault}
 use Rattle.script_text.specs.ScriptText.{ScriptText, IsScriptText, EventText, call, serve, work, deliver, close, object_id}
-use Rattle.session_model.specs.Sessions.{NODE, func_of_two, schema_of_one}
-use Rattle.tars_model.specs.Fits.{IsInt}
+use Rattle.session_model.specs.Sessions.{NODE, func_of_two, interface_of_one}
+use Rattle.tars_model.specs.Ranges.{IsInt}
 use Rattle.script_text.specs.Words.{number_of}
 
 -- What a script and an interface file have to agree on.
@@ -61,8 +61,7 @@ index_of i name = if bytes_eq name i.first then 0 else 1
 abbrev pub loaded_of : ScriptText → InterfaceText → Loaded
 loaded_of s i =
     record {
-      client = schema_of_one i.module_name i.interface (func_of_two i.func i.first i.second);
-      client_interface = 0;
+      interface = interface_of_one i.module_name i.interface (func_of_two i.func i.first i.second);
       object =
           record {
             id = object_id s.object;

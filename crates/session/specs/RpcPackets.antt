@@ -1,10 +1,10 @@
 -- Request and response packets (docs/PROTOCOL.md, "Packets"; RequestF.tars of TarsCpp).
 use Rattle.std.specs.Prelude.{◌<◌, ◌≤◌, ◌^◌, length, ℕ, Bool, true, false, pos, List, [], ◌∷◌, codes}
-use Rattle.tars_model.specs.Fits.{IsInt}
+use Rattle.tars_model.specs.Ranges.{IsInt}
 use Rattle.tars_model.specs.declared.member.Member.{Member}
 use Rattle.tars_model.specs.declared.ty.Ty.{Ty, Byte, Short, Int, Text as TextTy, Vector, Map as MapTy}
 use Rattle.tars_model.specs.declared.value.Value.{Value, Num, Text, Blob, Map}
-use Rattle.tars_codec.specs.Written.{written}
+use Rattle.session.specs.Bodies.{body_of}
 use Rattle.session.specs.declared.rpc_packet.request.Request.{Request}
 use Rattle.session.specs.declared.rpc_packet.response.Response.{Response}
 use Rattle.wire_words.specs.Packets.{framed}
@@ -79,7 +79,7 @@ response_values r =
     Num (pos 1) ∷ Num (pos 0) ∷ Num (pos r.id) ∷ Num (pos 0) ∷ Num r.ret ∷ Blob r.body ∷ Map [] ∷ Text [] ∷ []
 
 unfoldable pub request_frame : Request → List ℕ
-request_frame r = framed (written request_members (request_values r))
+request_frame r = framed (body_of request_members (request_values r))
 
 unfoldable pub response_frame : Response → List ℕ
-response_frame r = framed (written response_members (response_values r))
+response_frame r = framed (body_of response_members (response_values r))

@@ -4,13 +4,13 @@ use Rattle.std.specs.List.{AllByRecursion}
 use Rattle.tars_model.specs.declared.value.Value.{Value, Num}
 use Rattle.tars_model.specs.Members.{arguments_of, reply_members_of, required}
 use Rattle.tars_model.specs.declared.ty.Ty.{Int}
-use Rattle.tars_codec.specs.Written.{written}
+use Rattle.session.specs.Bodies.{body_of}
 use Rattle.session.specs.declared.rpc_packet.request.Request.{Request}
 use Rattle.session.specs.declared.rpc_packet.response.Response.{Response}
 use Rattle.session.specs.RpcPackets.{MAX_TEXT, request_members, response_members, request_frame}
 use Rattle.session_model.specs.Replies.{Reply, sum, code, reply_by}
 use Rattle.session_model.specs.Sessions.{func_of, node_of, rule_of}
-use Rattle.tars_model.specs.Fits.{IsInt}
+use Rattle.tars_model.specs.Ranges.{IsInt}
 use Rattle.session_model.specs.declared.loaded.Event.{Event}
 use Rattle.session_model.specs.declared.loaded.Event.TheVariants.{Call}
 use Rattle.session_model.specs.declared.loaded.Loaded.{Loaded}
@@ -47,10 +47,10 @@ reply_to s args = reply_by (Add s.left s.right) args
 -- The request and the response of a call that was opened under an id.
 
 abbrev pub request_of : Service → List Value → ℕ → Request
-request_of s args id = record { id = id; servant = s.id; func = s.func; body = written s.arguments args; timeout = s.timeout }
+request_of s args id = record { id = id; servant = s.id; func = s.func; body = body_of s.arguments args; timeout = s.timeout }
 
 abbrev pub response_with : Service → ℕ → Reply → Response
-response_with s id (sum n) = record { id = id; ret = pos 0; body = written s.reply (Num n ∷ []) }
+response_with s id (sum n) = record { id = id; ret = pos 0; body = body_of s.reply (Num n ∷ []) }
 response_with s id (code n) = record { id = id; ret = n; body = [] }
 
 abbrev pub response_of : Service → List Value → ℕ → Response

@@ -16,7 +16,7 @@ use Rattle.session.specs.InterfaceFile.{InterfaceText}
 use Rattle.script_text.specs.Reading.{EventValue, event_of, call, serve, work, deliver, close}
 use Rattle.facts.specs.OptionSteps.{◌>>=◌}
 use Rattle.session.specs.Loading.{two_way_call}
-use Rattle.session_model.specs.Sessions.{NODE, func_of_two, schema_of_one}
+use Rattle.session_model.specs.Sessions.{NODE, func_of_two, interface_of_one}
 
 -- the index of a parameter among the arguments, if it is one
 unfoldable pub index_in : InterfaceText → List ℕ → Option ℕ
@@ -73,8 +73,7 @@ session_in i s =
       rule ← rule_in i s.left.now s.right.now
       events ← events_in i.func 1 (map event_of s.events.items)
       Some (record {
-        client = schema_of_one i.module_name i.interface (func_of_two i.func i.first i.second);
-        client_interface = 0;
+        interface = interface_of_one i.module_name i.interface (func_of_two i.func i.first i.second);
         object = object_in s.object;
         rules = record { func = 0; rule = rule } ∷ [];
         events = events;

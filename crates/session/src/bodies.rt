@@ -1,8 +1,12 @@
 //! Values as the bodies of packets and calls, and back.
 
 ghost use Rattle.std.specs.Prelude.{◌≡◌, IfOk};
-ghost use Rattle.tars_model.specs.Fits.{FitMembers, HaveRisingTags};
-ghost use Rattle.tars_codec.specs.Written.{written, WereWritten, ReadsWritten};
+ghost use Rattle.std.specs.List.{All};
+ghost use Rattle.tars_model.specs.Declarations.{nothing_declared};
+ghost use Rattle.tars_model.specs.Members.{HaveRisingTags};
+ghost use Rattle.tars_codec.specs.PacketTypes.{IsPacketMember};
+ghost use Rattle.tars_codec.specs.Written.{WereWritten, ReadsWritten};
+ghost use Rattle.session.specs.Bodies.{FitMembers, body_of};
 
 use bytes::BytesMut;
 use std::alloc::{AllocError, Global};
@@ -17,7 +21,7 @@ pub(crate) fn write_body(
 ) -> Result<Vec<u8>, AllocError>
     requires rising { HaveRisingTags members.now }
     requires fits { FitMembers members.now values.now }
-    ensures { IfOk result (λ body. body.items ≡ written members.now values.now) }
+    ensures { IfOk result (λ body. body.items ≡ body_of members.now values.now) }
 {
     let mut body = BytesMut::new(alloc);
     encode(alloc, &Schema::empty(alloc), members, values, &mut body)?;
@@ -31,8 +35,9 @@ pub(crate) fn read_body(
     body: &[u8],
 ) -> Result<Listed<Value>, AllocError>
     requires rising { HaveRisingTags members.now }
-    requires written { WereWritten members.now body.now }
-    ensures { ReadsWritten members.now body.now result }
+    requires types { All IsPacketMember members.now }
+    requires written { WereWritten nothing_declared members.now body.now }
+    ensures { ReadsWritten nothing_declared members.now body.now result }
 {
     let schema = Schema::empty(alloc);
     match decode(alloc, &schema, members, body) {

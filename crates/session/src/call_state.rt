@@ -4,7 +4,7 @@ ghost use Rattle.session.specs.Courses.{is_open_under, closed_call};
 use crate::{CallId, End, PickNote};
 
 /// A scripted call while the session runs.
-#[derive(Debug, Drop)]
+#[derive(Drop)]
 pub(crate) struct CallState {
     pub call: u32,
     pub line: u32,

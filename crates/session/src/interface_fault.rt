@@ -4,7 +4,7 @@ ghost use Rattle.session.specs.VerdictSteps.{lex_refused, parse_refused};
 use idl_parse::{LexFault, LexWhy, ParseFault, ParseWhy};
 
 /// What is wrong with an interface file.
-#[derive(Clone, Copy, Debug, PartialEq, Eq)]
+#[derive(Clone, Copy, PartialEq, Eq)]
 pub enum FileFault {
     /// It has more bytes than any file that is read.
     TooLong,
@@ -17,7 +17,7 @@ pub enum FileFault {
 }
 
 /// Why an interface file gives no names.
-#[derive(Clone, Copy, Debug, PartialEq, Eq)]
+#[derive(Clone, Copy, PartialEq, Eq)]
 pub enum InterfaceFault {
     Refused(FileFault),
     Memory,

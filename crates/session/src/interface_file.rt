@@ -18,7 +18,7 @@ use script_text::MAX_FILE;
 use std::alloc::Global;
 
 /// The names that a script needs of an interface file.
-#[derive(Clone, Copy, Debug)]
+#[derive(Clone, Copy)]
 pub struct InterfaceText<'a> {
     pub module: &'a [u8],
     pub interface: &'a [u8],

@@ -7,7 +7,7 @@ use tars_base::ReadFault;
 use tars_model::Bytes8;
 
 /// Why a script was not loaded.
-#[derive(Debug, Drop)]
+#[derive(Drop)]
 pub enum LoadFault {
     /// A text that was read whole is refused, by this line.
     Refused { line: Bytes8 },

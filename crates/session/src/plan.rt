@@ -19,7 +19,7 @@ use std::collections::VecDeque;
 use tars_model::Bytes8;
 
 /// A run of a script, with one node and the link to it.
-#[derive(Debug, Drop)]
+#[derive(Drop)]
 pub(crate) struct Plan<'a> {
     service: Service,
     events: &'a [Event],

@@ -7,7 +7,7 @@ use crate::interface_fault::FileFault;
 use std::fmt;
 
 /// What judges a text.
-#[derive(Clone, Copy, Debug, PartialEq, Eq)]
+#[derive(Clone, Copy, PartialEq, Eq)]
 pub enum Stage {
     /// How long the text is.
     Size,
@@ -32,7 +32,7 @@ impl fmt::Display for Stage {
 }
 
 /// Why a text is refused: what judged it, the number that the reason has there, and the offset.
-#[derive(Clone, Copy, Debug, PartialEq, Eq)]
+#[derive(Clone, Copy, PartialEq, Eq)]
 pub struct TextFault {
     pub stage: Stage,
     pub number: u8,
@@ -40,7 +40,7 @@ pub struct TextFault {
 }
 
 /// A refused file. It prints as its line.
-#[derive(Clone, Copy, Debug)]
+#[derive(Clone, Copy)]
 pub struct RefusedText<'a> {
     pub file: &'a str,
     pub fault: TextFault,
@@ -61,7 +61,7 @@ impl<'a> fmt::Display for RefusedText<'a> {
 }
 
 /// What is wrong with a script that was read.
-#[derive(Clone, Copy, Debug, PartialEq, Eq)]
+#[derive(Clone, Copy, PartialEq, Eq)]
 pub enum ScriptFault {
     /// It has no accepted form.
     Form,

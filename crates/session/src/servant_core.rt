@@ -1,9 +1,9 @@
 //! The servant: what it replies to a call's arguments, and the response that carries it.
 
 ghost use Rattle.std.specs.Prelude.{◌≡◌, ◌<◌, ◌≤◌, ◌^◌, ℕ, ℤ, pos, ◌+ℤ◌, List as Listed, IfOk};
-ghost use Rattle.tars_model.specs.Fits.{IsInt};
+ghost use Rattle.tars_model.specs.Ranges.{IsInt};
 ghost use Rattle.tars_model.specs.declared.value.Value.{Value as AValue};
-ghost use Rattle.tars_codec.specs.Written.{written};
+ghost use Rattle.session.specs.Bodies.{body_of};
 ghost use Rattle.session.specs.RpcPackets.{response_frame};
 ghost use Rattle.session_model.specs.Replies.{argument, added};
 ghost use Rattle.session.specs.Services.{IsService, AreTwoInts, Asks, response_of, response_with};
@@ -55,11 +55,11 @@ fn response(alloc: Global, service: &Service, id: u32, sum: i64) -> Result<Respo
 }
 
 /// The arguments that a call's body was written from.
-#[tactic(auto, using(crate::proofs::Packets::Services::arguments_rise, crate::proofs::Packets::Services::arguments_fit))]
+#[tactic(auto, using(crate::proofs::Packets::Services::arguments_rise, crate::proofs::Packets::Services::argument_types, crate::proofs::Packets::Services::arguments_fit))]
 fn read_args(alloc: Global, service: &Service, body: &[u8]) -> Result<List<Value>, AllocError>
     requires service { IsService service.now }
-    requires written { (args : Listed AValue) × AreTwoInts args × (body.now ≡ written service.now.arguments args) }
-    ensures { (args : Listed AValue) → AreTwoInts args → body.now ≡ written service.now.arguments args → IfOk result (λ read. read ≡ args) }
+    requires written { (args : Listed AValue) × AreTwoInts args × (body.now ≡ body_of service.now.arguments args) }
+    ensures { (args : Listed AValue) → AreTwoInts args → body.now ≡ body_of service.now.arguments args → IfOk result (λ read. read ≡ args) }
 {
     read_body(alloc, service.arguments.as_slice(), body)
 }

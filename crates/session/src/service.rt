@@ -13,7 +13,7 @@ pub(crate) const NODE: u32 = 1;
 
 /// What the calls of a script go to: the object, its function, the servant's rule, and the members
 /// that stand in bodies and packets.
-#[derive(Debug, Drop)]
+#[derive(Drop)]
 pub(crate) struct Service {
     /// The object's id.
     pub id: Name,
@@ -36,10 +36,7 @@ fn func_of(loaded: &Loaded) -> &FuncDesc
     ensures func { result.now ≡ func_is loaded.now 0 }
     ensures few { length result.now.params ≤ 2 }
 {
-    let interface = loaded.client_interface as usize;
-    &loaded.client.interfaces.as_slice()[interface]
-        .funcs
-        .as_slice()[0]
+    &loaded.interface.funcs.as_slice()[0]
 }
 
 /// The one node of the object.

@@ -1,6 +1,6 @@
 -- What a servant replies to a call by its rule (docs/SCRIPTS.md, "Rules").
 use Rattle.std.specs.Prelude.{ℕ, if◌then◌else◌, ℤ, pos, neg_ℤ, ◌+ℤ◌, List, slice_index_or}
-use Rattle.tars_model.specs.Fits.{is_int}
+use Rattle.tars_model.specs.Ranges.{is_int}
 use Rattle.tars_model.specs.declared.value.Value.{Value, Num, out-Value}
 use Rattle.tars_model.specs.declared.value.Value.TheOpen as layer
 use Rattle.tars_model.specs.declared.value.Pair.{Pair}

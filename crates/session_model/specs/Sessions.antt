@@ -3,8 +3,6 @@ use Rattle.std.specs.Prelude.{ℕ, false, Option, Some, List, [], ◌∷◌, sli
 use Rattle.tars_model.specs.declared.func_desc.FuncDesc.{FuncDesc}
 use Rattle.tars_model.specs.declared.func_desc.Param.{Param}
 use Rattle.tars_model.specs.declared.interface_desc.InterfaceDesc.{InterfaceDesc}
-use Rattle.tars_model.specs.declared.schema.Schema.{Schema}
-use Rattle.tars_model.specs.declared.schema.Decl.TheVariants.{Interface}
 use Rattle.tars_model.specs.declared.ty.Ty.{Int}
 use Rattle.session_model.specs.declared.loaded.Endpoint.{Endpoint}
 use Rattle.session_model.specs.declared.loaded.Loaded.{Loaded}
@@ -36,21 +34,14 @@ abbrev pub func_of_two : List ℕ → List ℕ → List ℕ → FuncDesc
 func_of_two func first second =
     record { name = func; ret = Some Int; params = int_param first ∷ int_param second ∷ [] }
 
--- the schema of one interface with one function
-abbrev pub schema_of_one : List ℕ → List ℕ → FuncDesc → Schema
-schema_of_one module_name interface func =
-    record {
-      interfaces = record { «module» = module_name; name = interface; funcs = func ∷ [] } ∷ [];
-      order = Interface 0 ∷ [];
-    }
+-- an interface of this one function
+abbrev pub interface_of_one : List ℕ → List ℕ → FuncDesc → InterfaceDesc
+interface_of_one module_name name func = record { «module» = module_name; name = name; funcs = func ∷ [] }
 
--- The parts of a loaded script: its interface, a function by its number, the node, and the rule.
-
-abbrev pub interface_of : Loaded → InterfaceDesc
-interface_of l = slice_index_or l.client.interfaces l.client_interface (record { «module» = []; name = []; funcs = [] })
+-- The parts of a loaded script: a function of its interface by its number, the node, and the rule.
 
 abbrev pub func_of : Loaded → ℕ → FuncDesc
-func_of l k = slice_index_or (interface_of l).funcs k (func_of_two [] [] [])
+func_of l k = slice_index_or l.interface.funcs k (func_of_two [] [] [])
 
 abbrev pub node_of : Loaded → Endpoint
 node_of l = slice_index_or l.object.nodes 0 (record { host = []; port = 0; timeout = 0 })

@@ -2,14 +2,14 @@ use crate::CallId;
 use tars_model::{Bytes8, List};
 
 /// A frame that was sent, with the number of its call.
-#[derive(Debug, Drop)]
+#[derive(Drop)]
 pub struct SentRow {
     pub call: u32,
     pub frame: Bytes8,
 }
 
 /// What became of a packet that was received.
-#[derive(Clone, Copy, Debug, PartialEq, Eq)]
+#[derive(Clone, Copy, PartialEq, Eq)]
 pub enum GotFate {
     /// It settled the call with this id.
     Used { id: CallId },
@@ -18,14 +18,14 @@ pub enum GotFate {
 }
 
 /// A packet that was received.
-#[derive(Debug, Drop)]
+#[derive(Drop)]
 pub struct GotRow {
     pub packet: Bytes8,
     pub fate: GotFate,
 }
 
 /// Why nothing more passes on a link.
-#[derive(Clone, Copy, Debug, PartialEq, Eq)]
+#[derive(Clone, Copy, PartialEq, Eq)]
 pub enum Cut {
     /// It could not be read or written.
     Failed,
@@ -40,7 +40,7 @@ pub enum Cut {
 }
 
 /// What passed on the link to a node.
-#[derive(Debug, Drop)]
+#[derive(Drop)]
 pub struct LinkLog {
     pub node: u32,
     pub sent: List<SentRow>,

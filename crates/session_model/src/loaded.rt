@@ -1,7 +1,7 @@
-use tars_model::{List, Name, Schema, Value};
+use tars_model::{InterfaceDesc, List, Name, Value};
 
 /// A node of an object: where it listens, and how long a call to it may take.
-#[derive(Debug, Drop)]
+#[derive(Drop)]
 pub struct Endpoint {
     pub host: Name,
     pub port: u16,
@@ -10,28 +10,28 @@ pub struct Endpoint {
 }
 
 /// An object: its id `APP.SERVER.OBJ`, and its nodes in the order of the script.
-#[derive(Debug, Drop)]
+#[derive(Drop)]
 pub struct ObjectName {
     pub id: Name,
     pub nodes: List<Endpoint>,
 }
 
 /// How a servant answers a function.
-#[derive(Clone, Copy, Debug, PartialEq, Eq)]
+#[derive(Clone, Copy, PartialEq, Eq)]
 pub enum Rule {
     /// The sum of two arguments, by their indexes among the arguments.
     Add(u32, u32),
 }
 
 /// The rule of a function, which goes by its number in its interface.
-#[derive(Clone, Copy, Debug, PartialEq, Eq)]
+#[derive(Clone, Copy, PartialEq, Eq)]
 pub struct FuncRule {
     pub func: u32,
     pub rule: Rule,
 }
 
 /// A scripted call.
-#[derive(Debug, Drop)]
+#[derive(Drop)]
 pub struct CallSpec {
     /// The call's number in the script, from 1.
     pub call: u32,
@@ -49,7 +49,7 @@ pub struct CallSpec {
 }
 
 /// What happens next in a script (docs/SCRIPTS.md, "Events").
-#[derive(Debug, Drop)]
+#[derive(Drop)]
 pub enum Event {
     Call(CallSpec),
     /// The node reads so many of the bytes that wait, or all of them.
@@ -62,11 +62,10 @@ pub enum Event {
 }
 
 /// A script with its interface, read and judged.
-#[derive(Debug, Drop)]
+#[derive(Drop)]
 pub struct Loaded {
-    pub client: Schema,
-    /// The number of the interface in the schema.
-    pub client_interface: u32,
+    /// What the caller and the servant speak.
+    pub interface: InterfaceDesc,
     pub object: ObjectName,
     pub rules: List<FuncRule>,
     pub events: List<Event>,

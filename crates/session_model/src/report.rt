@@ -2,24 +2,24 @@ use crate::LinkLog;
 use tars_model::{List, Value};
 
 /// The id under which a call's request is sent and its reply comes back.
-#[derive(Clone, Copy, Debug, PartialEq, Eq)]
+#[derive(Clone, Copy, PartialEq, Eq)]
 pub struct CallId(pub u32);
 
 /// What was known of a node when it was chosen.
-#[derive(Clone, Copy, Debug, PartialEq, Eq)]
+#[derive(Clone, Copy, PartialEq, Eq)]
 pub enum Why {
     Live,
 }
 
 /// The node that was chosen for a call, from 1.
-#[derive(Clone, Copy, Debug, PartialEq, Eq)]
+#[derive(Clone, Copy, PartialEq, Eq)]
 pub struct PickNote {
     pub node: u32,
     pub why: Why,
 }
 
 /// Why a call was not sent.
-#[derive(Clone, Copy, Debug, PartialEq, Eq)]
+#[derive(Clone, Copy, PartialEq, Eq)]
 pub enum Refusal {
     /// As many calls of the line as its width were in flight.
     Full,
@@ -28,7 +28,7 @@ pub enum Refusal {
 }
 
 /// The one outcome of a call. Links and packets are numbered from 1.
-#[derive(Debug, Drop)]
+#[derive(Drop)]
 pub enum End {
     /// The values that the reply has.
     Value {
@@ -48,7 +48,7 @@ pub enum End {
 }
 
 /// The row of a scripted call.
-#[derive(Debug, Drop)]
+#[derive(Drop)]
 pub struct Row {
     pub call: u32,
     pub line: u32,
@@ -62,7 +62,7 @@ pub struct Row {
 }
 
 /// What the router did.
-#[derive(Clone, Copy, Debug, PartialEq, Eq)]
+#[derive(Clone, Copy, PartialEq, Eq)]
 pub enum RouteStep {
     Picked {
         call: u32,
@@ -83,7 +83,7 @@ pub enum RouteStep {
 
 /// What happened in a session: a row per scripted call in order, a log per node in order, and the
 /// steps of the router.
-#[derive(Debug, Drop)]
+#[derive(Drop)]
 pub struct Report {
     pub calls: List<Row>,
     pub links: List<LinkLog>,

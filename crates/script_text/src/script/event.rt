@@ -10,7 +10,7 @@ use crate::script::lines::split_line;
 use crate::script::numbers::{int_of, is_number};
 
 /// What a line after the header says.
-#[derive(Clone, Copy, Debug)]
+#[derive(Clone, Copy)]
 pub enum EventText<'a> {
     /// A call of the function with two numbers; each is none where it is no int.
     Call {

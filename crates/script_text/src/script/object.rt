@@ -14,7 +14,7 @@ use crate::script::numbers::natural_within;
 const MAX_TIMEOUT: u32 = 3_600_000;
 
 /// An object with its one node.
-#[derive(Clone, Copy, Debug)]
+#[derive(Clone, Copy)]
 pub struct ObjectText<'a> {
     /// `APP.SERVER.OBJ`.
     pub id: &'a [u8],

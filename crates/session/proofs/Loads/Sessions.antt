@@ -17,7 +17,7 @@ use Rattle.script_text.specs.declared.script.ScriptText.{ScriptText as ScriptStr
 use Rattle.session.specs.InterfaceFile.{InterfaceText}
 use Rattle.session.specs.Loading.{two_way_call, Agree, IsParameter, IsEventOf, events_from, index_of, loaded_of}
 use Rattle.script_text.specs.Reading.{int_of}
-use Rattle.tars_model.specs.Fits.{IsInt, is_int}
+use Rattle.tars_model.specs.Ranges.{IsInt, is_int}
 use Rattle.tars_model.proofs.CallerLemmas.{int_test, int_passes}
 use Rattle.script_text.specs.Reading.{EventValue, event_of, event_meant, Reads}
 use Rattle.script_text.specs.Reading as value
@@ -25,7 +25,7 @@ use Rattle.facts.specs.OptionSteps.{◌>>=◌}
 use Rattle.script_text.specs.ScanSteps.{Gives}
 use Rattle.script_text.specs.ScriptText.{ScriptText, EventText, call, serve, work, deliver, close}
 use Rattle.session.specs.SessionSteps.{index_in, rule_in, call_with, event_in, next_number, events_in, object_in, is_about, session_in}
-use Rattle.session_model.specs.Sessions.{NODE, func_of_two, schema_of_one}
+use Rattle.session_model.specs.Sessions.{NODE, func_of_two, interface_of_one}
 use Rattle.script_text.specs.Words.{number_of}
 use Rattle.facts.proofs.OptionLaws.{bind_some, some_is, chosen}
 
@@ -174,8 +174,7 @@ session_in_complete i r s reads agree =
 abbrev session_from : InterfaceText → ScriptStruct → Rule → List Event → Loaded
 session_from i r rule events =
     record {
-      client = schema_of_one i.module_name i.interface (func_of_two i.func i.first i.second);
-      client_interface = 0;
+      interface = interface_of_one i.module_name i.interface (func_of_two i.func i.first i.second);
       object = object_in r.object;
       rules = record { func = 0; rule = rule } ∷ [];
       events = events;

@@ -5,11 +5,14 @@ use Rattle.std.specs.List.{AllByRecursion}
 use Rattle.wire_words.specs.Packets.{LENGTH_BYTES, framed, IsPacket}
 use Rattle.wire_words.specs.Spelling.{head, spelled, spelled_number, shortest}
 use Rattle.wire_words.specs.Tree.{WireNumber, zero_tag, int1, int2, int4, int8}
+use Rattle.tars_model.specs.Declarations.{nothing_declared}
+use Rattle.tars_model.specs.declared.ty.Ty.{Short}
 use Rattle.tars_model.specs.declared.value.Value.{Num}
 use Rattle.tars_model.specs.declared.value.Value.TheOpen as layer
 use Rattle.tars_model.specs.declared.value.Value.TheVariants.{outs-Num}
 use Rattle.tars_codec.specs.Written.{wire_value, written}
 use Rattle.tars_codec.proofs.CallerLemmas.{wire_value_at}
+use Rattle.session.specs.Bodies.{body_of}
 use Rattle.session.specs.declared.rpc_packet.request.Request.{Request}
 use Rattle.session.specs.declared.rpc_packet.response.Response.{Response}
 use Rattle.session.specs.declared.service.Service.{Service}
@@ -38,14 +41,14 @@ number_some tag (int4 n) = simp length-append (omega (arith, head_some tag 2))
 number_some tag (int8 n) = simp length-append (omega (arith, head_some tag 3))
 
 -- the version, which stands first
-version_some : 1 ≤ length (spelled 1 (wire_value (Num (pos 1))))
+version_some : 1 ≤ length (spelled 1 (wire_value (Num (pos 1)) nothing_declared Short))
 version_some = rw (wire_value_at (Num (pos 1)) (layer.Num (pos 1)) (outs-Num (pos 1))) (number_some 1 (shortest (pos 1)))
 
-request_some : (r : Request) → 1 ≤ length (written request_members (request_values r))
+request_some : (r : Request) → 1 ≤ length (body_of request_members (request_values r))
 unfolding written request_members request_values
 request_some r = simp length-append (omega (arith, version_some))
 
-response_some : (r : Response) → 1 ≤ length (written response_members (response_values r))
+response_some : (r : Response) → 1 ≤ length (body_of response_members (response_values r))
 unfolding written response_members response_values
 response_some r = simp length-append (omega (arith, version_some))
 
@@ -54,11 +57,11 @@ framed_packet body some short = record { body = body; bytes = refl; some = some;
 
 request_packet : (r : Request) → IsSendable r → IsPacket (request_frame r)
 unfolding request_frame
-request_packet r h = framed_packet (written request_members (request_values r)) (request_some r) (request_short r h)
+request_packet r h = framed_packet (body_of request_members (request_values r)) (request_some r) (request_short r h)
 
 response_packet : (r : Response) → IsAnswerable r → IsPacket (response_frame r)
 unfolding response_frame
-response_packet r h = framed_packet (written response_members (response_values r)) (response_some r) (response_short r h)
+response_packet r h = framed_packet (body_of response_members (response_values r)) (response_some r) (response_short r h)
 
 pub requests_are_packets : (s : Service) (os : List Opened) → IsService s → AllByRecursion IsOpened os → AllByRecursion IsPacket (map (sent_frame s) os)
 requests_are_packets s [] h each = tt

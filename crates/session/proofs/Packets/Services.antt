@@ -1,51 +1,61 @@
 -- What the bodies, the request and the response of a call are like.
 use Rattle.std.proofs.Common.{◌≡◌, ◌<◌, ◌≤◌, ◌^◌, ◌⊎◌, inl, inr, ◌+ℤ◌, ℕ, ℤ, Bool, true, false, List, [], ◌∷◌, length, refl, sym, ap, subst, ◌∙◌, of_z, w32, arith, rules, length-append, lit≤}
-use Rattle.tars_model.specs.Fits.{FitMembers, HaveRisingTags, IsInt, is_int}
+use Rattle.tars_model.specs.Ranges.{IsInt, is_int}
 use Rattle.tars_model.proofs.CallerLemmas.{int_test, int_passes}
-use Rattle.tars_model.specs.Members.{required}
+use Rattle.tars_model.specs.Members.{HaveRisingTags, required}
 use Rattle.tars_model.specs.declared.ty.Ty.{Int}
-use Rattle.tars_model.specs.declared.ty.Ty.TheVariants.{outs-Int}
 use Rattle.tars_model.specs.declared.value.Value.{Value, Num}
-use Rattle.tars_model.specs.declared.value.Value.TheVariants.{outs-Num}
+use Rattle.std.specs.List.{All}
+use Rattle.std.proofs.lemmas.Bool.{and_from}
+use Rattle.tars_codec.specs.PacketTypes.{IsPacketMember}
 use Rattle.tars_codec.specs.Written.{written}
+use Rattle.session.specs.Bodies.{FitMembers, body_of}
 use Rattle.session.specs.declared.rpc_packet.response.Response.{Response}
 use Rattle.session.specs.declared.service.Service.{Service}
 use Rattle.session.specs.Services.{IsService, AreTwoInts, Asks, reply_to, request_of, response_of, response_with}
 use Rattle.session_model.specs.Replies.{Reply, sum, code, UNKNOWN, added, argument}
 use Rattle.session.specs.RpcPackets.{MAX_TEXT, IsSendable, IsAnswerable}
+use Rattle.session.proofs.Packets.Fits.{int_fits}
 use Rattle.session.proofs.Packets.Lengths.{num_short}
+use Rattle.session.proofs.Packets.Types.{two_types, one_type}
 
 pub arguments_rise : (s : Service) → IsService s → HaveRisingTags s.arguments
 arguments_rise s h = rw h.arguments_are (search rules)
+
+pub argument_types : (s : Service) → IsService s → All IsPacketMember s.arguments
+argument_types s h = rw h.arguments_are (two_types (required 1 Int h.first) (required 2 Int h.second) refl refl)
+
+pub reply_types : (s : Service) → IsService s → All IsPacketMember s.reply
+reply_types s h = rw h.reply_is (one_type (required 0 Int []) refl)
 
 pub reply_rises : (s : Service) → IsService s → HaveRisingTags s.reply
 reply_rises s h = rw h.reply_is (search rules)
 
 two_fit : (a b : List ℕ) (m n : ℤ) → IsInt m → IsInt n → FitMembers (required 1 Int a ∷ required 2 Int b ∷ []) (Num m ∷ Num n ∷ [])
-two_fit a b m n hm hn = simp (outs-Num, outs-Int) (search rules)
+two_fit a b m n hm hn = and_from _ _ (int_fits m hm) (and_from _ _ (int_fits n hn) refl)
 
 pub arguments_fit : (s : Service) (args : List Value) → IsService s → AreTwoInts args → FitMembers s.arguments args
 arguments_fit s args h ints =
     rw (h.arguments_are, ints.are) (two_fit h.first h.second ints.first ints.second ints.first_int ints.second_int)
 
 one_fits : (n : ℤ) → IsInt n → FitMembers (required 0 Int [] ∷ []) (Num n ∷ [])
-one_fits n h = simp (outs-Num, outs-Int) (search rules)
+one_fits n h = and_from _ _ (int_fits n h) refl
 
 pub reply_fits : (s : Service) (n : ℤ) → IsService s → IsInt n → FitMembers s.reply (Num n ∷ [])
 reply_fits s n h int = rw h.reply_is (one_fits n int)
 
-two_short : (a b : List ℕ) (m n : ℤ) → length (written (required 1 Int a ∷ required 2 Int b ∷ []) (Num m ∷ Num n ∷ [])) ≤ MAX_TEXT
+two_short : (a b : List ℕ) (m n : ℤ) → length (body_of (required 1 Int a ∷ required 2 Int b ∷ []) (Num m ∷ Num n ∷ [])) ≤ MAX_TEXT
 unfolding written
-two_short a b m n = simp length-append (omega (arith, num_short 1 m, num_short 2 n))
+two_short a b m n = simp length-append (omega (arith, num_short 1 Int m, num_short 2 Int n))
 
-pub arguments_short : (s : Service) (args : List Value) → IsService s → AreTwoInts args → length (written s.arguments args) ≤ MAX_TEXT
+pub arguments_short : (s : Service) (args : List Value) → IsService s → AreTwoInts args → length (body_of s.arguments args) ≤ MAX_TEXT
 arguments_short s args h ints = rw (h.arguments_are, ints.are) (two_short h.first h.second ints.first ints.second)
 
-one_short : (n : ℤ) → length (written (required 0 Int [] ∷ []) (Num n ∷ [])) ≤ MAX_TEXT
+one_short : (n : ℤ) → length (body_of (required 0 Int [] ∷ []) (Num n ∷ [])) ≤ MAX_TEXT
 unfolding written
-one_short n = simp length-append (omega (arith, num_short 0 n))
+one_short n = simp length-append (omega (arith, num_short 0 Int n))
 
-pub reply_short : (s : Service) (n : ℤ) → IsService s → length (written s.reply (Num n ∷ [])) ≤ MAX_TEXT
+pub reply_short : (s : Service) (n : ℤ) → IsService s → length (body_of s.reply (Num n ∷ [])) ≤ MAX_TEXT
 reply_short s n h = rw h.reply_is (one_short n)
 
 pub request_sendable : (s : Service) (args : List Value) (id : ℕ) → IsService s → AreTwoInts args → id < 2 ^ 31 → IsSendable (request_of s args id)
@@ -99,7 +109,7 @@ pub record IsSum (s : Service) (args : List Value) (r : Response) : Type 0 where
   pub n : ℤ
   pub reply : reply_to s args ≡ sum n
   pub fits : FitMembers s.reply (Num n ∷ [])
-  pub body : r.body ≡ written s.reply (Num n ∷ [])
+  pub body : r.body ≡ body_of s.reply (Num n ∷ [])
 
 -- as the machine keeps it
 not_unknown : of_z w32 UNKNOWN ≡ 0 → ⊥

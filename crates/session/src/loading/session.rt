@@ -10,13 +10,13 @@ ghost use Rattle.script_text.specs.ScriptSteps.{is_call_value};
 ghost use Rattle.script_text.specs.ScriptText.{ScriptText as Written};
 ghost use Rattle.session.specs.SessionSteps.{index_in, rule_in, object_in, is_about, session_in};
 ghost use Rattle.script_text.specs.TextLimits.{MAX_CALLS};
-ghost use Rattle.session_model.specs.Sessions.{int_param, func_of_two, schema_of_one};
+ghost use Rattle.session_model.specs.Sessions.{int_param, func_of_two, interface_of_one};
 
 use crate::loading::events::events_of;
 use crate::{Endpoint, FuncRule, InterfaceText, Loaded, ObjectName, Rule};
 use script_text::{ObjectText, ScriptText};
 use std::alloc::{AllocError, Global};
-use tars_model::{FuncDesc, InterfaceDesc, List, Name, Param, Schema, Ty};
+use tars_model::{FuncDesc, InterfaceDesc, List, Name, Param, Ty};
 
 /// A list of one item.
 fn one<T: Drop>(alloc: Global, item: T) -> Result<List<T>, AllocError>
@@ -51,18 +51,15 @@ fn func_of(alloc: Global, interface: &InterfaceText) -> Result<FuncDesc, AllocEr
     })
 }
 
-fn schema_of(alloc: Global, interface: &InterfaceText) -> Result<Schema, AllocError>
-    ensures { let i = names_of interface.now in IfOk result
-        (λ schema. schema ≡ schema_of_one i.module_name i.interface (func_of_two i.func i.first i.second)) }
+fn interface_of(alloc: Global, text: &InterfaceText) -> Result<InterfaceDesc, AllocError>
+    ensures { let i = names_of text.now in IfOk result
+        (λ desc. desc ≡ interface_of_one i.module_name i.interface (func_of_two i.func i.first i.second)) }
 {
-    let desc = InterfaceDesc {
-        module: Name::from_slice(alloc, interface.module)?,
-        name: Name::from_slice(alloc, interface.interface)?,
-        funcs: one(alloc, func_of(alloc, interface)?)?,
-    };
-    let mut schema = Schema::empty(alloc);
-    schema.add_interface(desc)?;
-    Ok(schema)
+    Ok(InterfaceDesc {
+        module: Name::from_slice(alloc, text.module)?,
+        name: Name::from_slice(alloc, text.interface)?,
+        funcs: one(alloc, func_of(alloc, text)?)?,
+    })
 }
 
 #[tactic(auto, unfolding(crate::specs::SessionSteps::object_in))]
@@ -132,8 +129,7 @@ fn read_session(
         return Ok(None);
     };
     Ok(Some(Loaded {
-        client: schema_of(alloc, interface)?,
-        client_interface: 0,
+        interface: interface_of(alloc, interface)?,
         object: object_of(alloc, &script.object)?,
         rules: one(alloc, FuncRule { func: 0, rule })?,
         events,

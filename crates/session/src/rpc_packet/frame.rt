@@ -1,7 +1,9 @@
 ghost use Rattle.std.specs.Prelude.{◌≡◌, ◌+◌, ◌<◌, ◌^◌, length, ℕ, List, [], IfOk};
+ghost use Rattle.std.specs.List.{All};
 ghost use Rattle.tars_model.specs.declared.value.Value.{Value as AValue, Map as AMap};
-ghost use Rattle.tars_model.specs.Fits.{FitMembers, HaveRisingTags};
-ghost use Rattle.tars_codec.specs.Written.{written};
+ghost use Rattle.tars_model.specs.Members.{HaveRisingTags};
+ghost use Rattle.tars_codec.specs.PacketTypes.{IsPacketMember};
+ghost use Rattle.session.specs.Bodies.{FitMembers, body_of};
 ghost use Rattle.wire_words.specs.Packets.{LENGTH_BYTES, framed};
 
 use crate::bodies::{read_body, write_body};
@@ -17,8 +19,8 @@ const LENGTH_BYTES: usize = 4;
 pub fn frame(alloc: Global, members: &[Member], values: &[Value]) -> Result<Bytes8, AllocError>
     requires rising { HaveRisingTags members.now }
     requires fits { FitMembers members.now values.now }
-    requires short { length (written members.now values.now) + LENGTH_BYTES < 2 ^ 32 }
-    ensures { IfOk result (λ bytes. bytes ≡ framed (written members.now values.now)) }
+    requires short { length (body_of members.now values.now) + LENGTH_BYTES < 2 ^ 32 }
+    ensures { IfOk result (λ bytes. bytes ≡ framed (body_of members.now values.now)) }
 {
     let body = write_body(alloc, members, values)?;
     let length = body.len() + LENGTH_BYTES;
@@ -28,8 +30,8 @@ pub fn frame(alloc: Global, members: &[Member], values: &[Value]) -> Result<Byte
     Ok(Bytes8::from_vec(packet.into_vec()?))
 }
 
-/// The body of a packet.
-fn body_of(packet: &[u8]) -> &[u8]
+/// The bytes after the length.
+fn after_length(packet: &[u8]) -> &[u8]
     requires { (body : List ℕ) × (packet.now ≡ framed body) }
     ensures { (body : List ℕ) → packet.now ≡ framed body → result.now ≡ body }
 {
@@ -43,10 +45,11 @@ pub fn read_frame(
     packet: &[u8],
 ) -> Result<Listed<Value>, AllocError>
     requires rising { HaveRisingTags members.now }
-    requires written { (values : List AValue) × FitMembers members.now values × (packet.now ≡ framed (written members.now values)) }
-    ensures { (values : List AValue) → FitMembers members.now values → packet.now ≡ framed (written members.now values) → IfOk result (λ read. read ≡ values) }
+    requires types { All IsPacketMember members.now }
+    requires written { (values : List AValue) × FitMembers members.now values × (packet.now ≡ framed (body_of members.now values)) }
+    ensures { (values : List AValue) → FitMembers members.now values → packet.now ≡ framed (body_of members.now values) → IfOk result (λ read. read ≡ values) }
 {
-    read_body(alloc, members, body_of(packet))
+    read_body(alloc, members, after_length(packet))
 }
 
 /// A map without entries.

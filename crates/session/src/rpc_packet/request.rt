@@ -7,7 +7,7 @@ use std::alloc::{AllocError, Global};
 use tars_model::{Bytes8, Member, Value};
 
 /// The request of a call, as its caller writes it.
-#[derive(Debug, Drop)]
+#[derive(Drop)]
 pub struct Request {
     pub id: u32,
     /// The object's id.
@@ -20,7 +20,7 @@ pub struct Request {
 }
 
 /// What a node needs of a request.
-#[derive(Debug, Drop)]
+#[derive(Drop)]
 pub struct RequestRead {
     pub id: u32,
     pub body: Bytes8,
@@ -66,7 +66,7 @@ fn values_of(alloc: Global, request: Request) -> [Value; 10]
 }
 
 /// Reads the packet of a request that was written.
-#[tactic(auto, using(crate::proofs::Packets::Fits::request_rises, crate::proofs::Packets::Fits::request_fits), unfolding(crate::specs::RpcPackets::request_frame))]
+#[tactic(auto, using(crate::proofs::Packets::Fits::request_rises, crate::proofs::Packets::Fits::request_fits, crate::proofs::Packets::Types::request_types), unfolding(crate::specs::RpcPackets::request_frame))]
 pub fn read_request(
     alloc: Global,
     members: &[Member],

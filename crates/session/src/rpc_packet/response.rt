@@ -7,7 +7,7 @@ use std::alloc::{AllocError, Global};
 use tars_model::{Bytes8, Member, Value};
 
 /// The response to a call, as a node writes it.
-#[derive(Debug, Drop)]
+#[derive(Drop)]
 pub struct Response {
     pub id: u32,
     /// The return code, 0 for success.
@@ -48,7 +48,7 @@ fn values_of(alloc: Global, response: Response) -> [Value; 8]
 }
 
 /// Reads the packet of a response that was written.
-#[tactic(auto, using(crate::proofs::Packets::Fits::response_rises, crate::proofs::Packets::Fits::response_fits), unfolding(crate::specs::RpcPackets::response_frame))]
+#[tactic(auto, using(crate::proofs::Packets::Fits::response_rises, crate::proofs::Packets::Fits::response_fits, crate::proofs::Packets::Types::response_types), unfolding(crate::specs::RpcPackets::response_frame))]
 pub fn read_response(
     alloc: Global,
     members: &[Member],

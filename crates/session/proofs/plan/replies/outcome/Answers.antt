@@ -1,10 +1,21 @@
-use Rattle.std.proofs.Common.{[], ◌∷◌, ◌∙◌}
+use Rattle.std.proofs.Common.{◌≡◌, [], ◌∷◌, sym, ap, ◌∙◌}
+use Rattle.session_model.specs.declared.report.End.TheVariants.{Value as ValueEnd}
 use Rattle.tars_model.specs.declared.value.Value.{Num}
-use Rattle.session.proofs.Packets.Services.{sum_replied}
+use Rattle.session.specs.Courses.{outcome as outcome_of}
+use Rattle.session.proofs.Packets.Services.{reply_types, sum_replied}
 use Rattle.session.proofs.plan.replies.outcome.Goals as goal
+
+pub read_body-requires-clause-types : goal.read_body-requires-clause-types
+read_body-requires-clause-types c = rw c.as_slice.ensures (reply_types c.args.service.now c.requires.service)
 
 pub read_body-requires-clause-written : goal.read_body-requires-clause-written
 read_body-requires-clause-written c =
     let w = c.requires.answer in
     let v = sum_replied c.args.service.now w.0.args w.0.id c.args.response.now c.requires.service w.2 c.if-response-eq0.true in
     rw c.as_slice.ensures (Num v.n ∷ [], v.fits, c.as_slice-then-response-eq0.ensures ∙ v.body)
+
+pub returns-then-response-eq0 : goal.returns-then-response-eq0
+returns-then-response-eq0 c = λ o io e.
+    let v = sum_replied c.args.service.now o.args o.id c.args.response.now c.requires.service e c.if-response-eq0.true in
+    let values : c.in_ok-values.values ≡ Num v.n ∷ [] = c.in_ok-values.ensures (Num v.n ∷ []) (rw c.as_slice.ensures v.fits) (rw c.as_slice.ensures (c.as_slice-then-response-eq0.ensures ∙ v.body)) in
+    ap (λ vs. ValueEnd 1 c.args.packet vs) values ∙ ap (outcome_of c.args.packet) (sym v.reply)

@@ -1,6 +1,6 @@
 use Rattle.std.proofs.Common.{◌≤◌, length, rules}
 use Rattle.session.proofs.Packets.Framed.{packet_body}
-use Rattle.session.proofs.rpc_packet.frame.body_of.Goals as goal
+use Rattle.session.proofs.rpc_packet.frame.after_length.Goals as goal
 
 pub slice_bounds-result-count : goal.slice_bounds-result-count
 slice_bounds-result-count c = (packet_body c.args.packet.now c.requires.0 c.requires.1).0
