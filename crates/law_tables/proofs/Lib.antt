@@ -1,1 +1,1 @@
-pub mod TextMaps
+pub mod Interfaces

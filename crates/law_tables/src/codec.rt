@@ -1,159 +1,114 @@
-//! Values as fields on the wire, and back.
+//! Fields as a row has them.
 
-use crate::entries::Entries;
-use crate::fields::Fields;
-use crate::row_text::bytes_of;
+use crate::bodies::put_coded;
+use crate::page::Page;
+use crate::row_text::{bytes_of, split_word};
 use std::alloc::{AllocError, Global};
-use std::str;
-use tars_model::{Boxed, Bytes8, Pair, Ty, Value};
+use tars_model::{Boxed, Bytes8, List, Member, Name, Pair, Ty, Value};
 
-/// The longest text.
-const MOST: usize = 1 << 20;
+/// `map<string, string>`
+fn texts_type(alloc: Global) -> Result<Ty, AllocError> {
+    let key = Boxed::new(alloc, Ty::Text)?;
+    Ok(Ty::Map(key, Boxed::new(alloc, Ty::Text)?))
+}
 
-/// How much is shown of a text.
-const SHOWN: usize = 42;
-
-/// `int N` and so on. What is no number of the type is 0.
-fn with_number(
-    alloc: Global,
-    fields: Fields,
-    tag: u8,
-    ty: &str,
-    word: &str,
-) -> Result<Fields, AllocError> {
-    match ty {
-        "byte" => {
-            let number = i64::from(word.parse::<i8>().unwrap_or(0));
-            fields.with_first(alloc, tag, Ty::Byte, Value::Num(number))
-        }
-        "short" => {
-            let number = i64::from(word.parse::<i16>().unwrap_or(0));
-            fields.with_first(alloc, tag, Ty::Short, Value::Num(number))
-        }
-        _ => {
-            let number = i64::from(word.parse::<i32>().unwrap_or(0));
-            fields.with_first(alloc, tag, Ty::Int, Value::Num(number))
-        }
+/// The type that a word stands for; `int` for another word.
+fn type_of(alloc: Global, word: &str) -> Result<Ty, AllocError> {
+    match word {
+        "byte" => Ok(Ty::Byte),
+        "short" => Ok(Ty::Short),
+        "string" => Ok(Ty::Text),
+        "bytes" => Ok(Ty::Vector(Boxed::new(alloc, Ty::Byte)?)),
+        "map" => texts_type(alloc),
+        _ => Ok(Ty::Int),
     }
 }
 
-/// `string TEXT`
-fn with_text(alloc: Global, fields: Fields, tag: u8, text: Vec<u8>) -> Result<Fields, AllocError> {
-    if text.len() > MOST {
-        return Ok(fields);
-    }
-    fields.with_first(alloc, tag, Ty::Text, Value::Text(Bytes8::from_vec(text)))
+fn text_value(alloc: Global, text: &str) -> Result<Value, AllocError> {
+    Ok(Value::Text(Bytes8::from_slice(alloc, text.as_bytes())?))
 }
 
-/// `bytes HEX`
-fn with_blob(alloc: Global, fields: Fields, tag: u8, digits: &[u8]) -> Result<Fields, AllocError> {
-    let Ok(bytes) = hex::decode(alloc, digits) else {
-        return Ok(fields);
-    };
-    if bytes.len() > MOST {
-        return Ok(fields);
-    }
-    let ty = Ty::Vector(Boxed::new(alloc, Ty::Byte)?);
-    fields.with_first(alloc, tag, ty, Value::Blob(Bytes8::from_vec(bytes)))
+/// The bytes of hexadecimal digits; none where they are no such digits.
+fn blob_value(alloc: Global, digits: &[u8]) -> Value {
+    let bytes = hex::decode(alloc, digits).unwrap_or(Vec::new(alloc));
+    Value::Blob(Bytes8::from_vec(bytes))
+}
+
+/// `KEY=VALUE`
+fn pair_of(alloc: Global, text: &str) -> Result<Pair, AllocError> {
+    let (key, value) = text.split_once('=').unwrap_or((text, ""));
+    let key = text_value(alloc, key)?;
+    let value = text_value(alloc, value)?;
+    Ok(Pair { key, value })
 }
 
 /// `KEY=VALUE KEY=VALUE ..`
-fn entries_of(alloc: Global, text: &str) -> Result<Entries, AllocError> {
-    let mut entries = Entries::new(alloc);
-    for entry in text.rsplit(' ') {
-        if let Some((key, value)) = entry.split_once('=') {
-            if key.len() <= MOST && value.len() <= MOST {
-                entries = entries.with_first(alloc, key.as_bytes(), value.as_bytes())?;
-            }
+fn map_value(alloc: Global, text: &str) -> Result<Value, AllocError> {
+    let mut pairs = List::new(alloc);
+    for pair in text.split(' ') {
+        if !pair.is_empty() {
+            pairs.push(pair_of(alloc, pair)?)?;
         }
     }
-    Ok(entries)
+    Ok(Value::Map(pairs))
 }
 
-/// `map ENTRIES`
-fn with_map(alloc: Global, fields: Fields, tag: u8, text: &str) -> Result<Fields, AllocError> {
-    let pairs = entries_of(alloc, text)?.into_pairs();
-    let key = Boxed::new(alloc, Ty::Text)?;
-    let value = Boxed::new(alloc, Ty::Text)?;
-    fields.with_first(alloc, tag, Ty::Map(key, value), Value::Map(pairs))
+/// The value that a text stands for, by the word of its type.
+fn value_of(alloc: Global, word: &str, text: &str) -> Result<Value, AllocError> {
+    match word {
+        "string" => Ok(Value::Text(Bytes8::from_vec(bytes_of(alloc, text)?))),
+        "bytes" => Ok(blob_value(alloc, &bytes_of(alloc, text)?)),
+        "map" => map_value(alloc, text),
+        _ => Ok(Value::Num(text.parse::<i64>().unwrap_or(0))),
+    }
 }
 
-/// `TAG TYPE VALUE`: the field, before those that are there.
-fn with_field(alloc: Global, fields: Fields, text: &str) -> Result<Fields, AllocError> {
-    let (tag, text) = text.split_once(' ').unwrap_or((text, ""));
-    let (ty, text) = text.split_once(' ').unwrap_or((text, ""));
+/// A member without a name, by the word of its type.
+fn member(alloc: Global, tag: u8, word: &str) -> Result<Member, AllocError> {
+    let name = Name::from_slice(alloc, b"")?;
+    let ty = type_of(alloc, word)?;
+    Ok(Member {
+        tag,
+        require: true,
+        ty,
+        name,
+        default: Value::Num(0),
+    })
+}
+
+/// `TAG TYPE VALUE`: adds the member and its value.
+fn add_field(
+    alloc: Global,
+    members: &mut List<Member>,
+    values: &mut List<Value>,
+    text: &str,
+) -> Result<(), AllocError> {
+    let (tag, text) = split_word(text);
+    let (word, text) = split_word(text);
     let tag = tag.parse::<u8>().unwrap_or(0);
-    match ty {
-        "string" => with_text(alloc, fields, tag, bytes_of(alloc, text)?),
-        "bytes" => with_blob(alloc, fields, tag, &bytes_of(alloc, text)?),
-        "map" => with_map(alloc, fields, tag, text),
-        _ => with_number(alloc, fields, tag, ty, text),
-    }
+    members.push(member(alloc, tag, word)?)?;
+    values.push(value_of(alloc, word, text)?)
 }
 
-/// A text. Of a long one its first part is shown, and how many bytes it stands for.
-fn short(alloc: Global, text: &str, len: usize) -> Result<String, AllocError> {
-    match text.split_at_checked(SHOWN) {
-        Some((first, more)) if !more.is_empty() => format!(in alloc; "{first}.. of {len}"),
-        _ => String::from_str(alloc, text),
+/// Adds the members and the values of all fields.
+fn add_fields(
+    alloc: Global,
+    members: &mut List<Member>,
+    values: &mut List<Value>,
+    text: &str,
+) -> Result<(), AllocError> {
+    for field in text.split(", ") {
+        add_field(alloc, members, values, field)?;
     }
-}
-
-fn short_hex(alloc: Global, bytes: &[u8]) -> Result<String, AllocError> {
-    let digits = hex::encode_upper(alloc, bytes)?;
-    short(alloc, &digits, bytes.len())
-}
-
-/// A value that has no entries.
-fn shown_one(alloc: Global, value: &Value) -> Result<String, AllocError> {
-    match value {
-        Value::Num(number) => format!(in alloc; "{number}"),
-        Value::Text(text) => {
-            let bytes: &[u8] = text;
-            let text = short(alloc, str::from_utf8(bytes).unwrap_or("?"), bytes.len())?;
-            format!(in alloc; "\"{text}\"")
-        }
-        Value::Blob(bytes) => {
-            let digits = short_hex(alloc, bytes)?;
-            format!(in alloc; "[{digits}]")
-        }
-        Value::Map(_) => String::from_str(alloc, "map"),
-    }
-}
-
-fn shown_pairs(alloc: Global, pairs: &[Pair]) -> Result<String, AllocError> {
-    let mut all = String::from_str(alloc, "map")?;
-    for pair in pairs {
-        let (key, value) = (shown_one(alloc, &pair.key)?, shown_one(alloc, &pair.value)?);
-        let one = format!(in alloc; " {key}={value}")?;
-        all.push_str(&one)?;
-    }
-    Ok(all)
-}
-
-fn shown(alloc: Global, values: &[Value]) -> Result<String, AllocError> {
-    let mut all = String::new(alloc);
-    for value in values {
-        let one = match value {
-            Value::Map(pairs) => shown_pairs(alloc, pairs.as_slice())?,
-            _ => shown_one(alloc, value)?,
-        };
-        let comma = if all.is_empty() { "" } else { ", " };
-        all.push_str(comma)?;
-        all.push_str(&one)?;
-    }
-    Ok(all)
+    Ok(())
 }
 
 /// `codec TAG TYPE VALUE, ..`: the bytes that spell the fields, and the values that are read from these.
-pub fn coded(alloc: Global, text: &str) -> Result<String, AllocError> {
-    let mut fields = Fields::new(alloc);
-    for field in text.rsplit(',') {
-        fields = with_field(alloc, fields, field.trim_start())?;
+pub fn put_codec(page: &mut Page, text: &str) {
+    let mut members = List::new(page.alloc());
+    let mut values = List::new(page.alloc());
+    match add_fields(page.alloc(), &mut members, &mut values, text) {
+        Ok(()) => put_coded(page, members.as_slice(), values.as_slice()),
+        Err(_) => page.fail(),
     }
-    let bytes = fields.spelled(alloc)?;
-    let values = fields.read(alloc, bytes.as_slice())?;
-    let bytes = short_hex(alloc, bytes.as_slice())?;
-    let values = shown(alloc, values.as_slice())?;
-    format!(in alloc; "{bytes} is {values}")
 }

@@ -1,7 +1,12 @@
 //! Functions and interfaces of many parameters, and the members that stand for them.
 
+ghost use Rattle.std.specs.Prelude.{◌≡◌, IfOk, OnOk};
+ghost use Rattle.law_tables.specs.Interfaces.{plain_interface};
+ghost use Rattle.tars_model.specs.Declarations.{nothing_declared, with_interface};
+ghost use Rattle.tars_model.specs.Schemas.{InterfaceFits};
+
+use crate::page::Page;
 use std::alloc::{AllocError, Global};
-use std::str;
 use tars_model::{
     Boxed, FuncDesc, InterfaceDesc, List, Member, Name, Param, Schema, Ty, args_of, reply_of,
 };
@@ -42,49 +47,47 @@ fn func(alloc: Global, count: u8) -> Result<FuncDesc, AllocError> {
     })
 }
 
-/// The tags of the members, and `?` for one that is no map.
-fn tags_of(alloc: Global, members: &[Member]) -> Result<String, AllocError> {
-    let mut all = String::new(alloc);
+/// Adds the tags of members, and a `?` after that of one that is no map.
+fn put_tags(page: &mut Page, members: &[Member]) {
     for member in members {
-        let mark = if matches!(&member.ty, Ty::Map(_, _)) {
-            ""
-        } else {
-            "?"
-        };
-        let one = format!(in alloc; " {}{mark}", member.tag)?;
-        all.push_str(&one)?;
+        page.add(" ");
+        page.show(member.tag);
+        if !matches!(&member.ty, Ty::Map(_, _)) {
+            page.add("?");
+        }
     }
-    Ok(all)
 }
 
-fn argument_tags(alloc: Global, func: &FuncDesc) -> Result<String, AllocError> {
+/// Adds the tags of a call's arguments and of its reply.
+fn put_func(page: &mut Page, func: &FuncDesc) {
     if func.params.as_slice().len() > MAX_PARAMS {
-        return String::from_str(alloc, " too many");
+        return page.add("too many");
     }
-    let members = args_of(alloc, func)?;
-    tags_of(alloc, members.as_slice())
-}
-
-fn reply_tags(alloc: Global, func: &FuncDesc) -> Result<String, AllocError> {
-    if func.params.as_slice().len() > MAX_PARAMS {
-        return String::from_str(alloc, " too many");
+    page.add("arguments");
+    match args_of(page.alloc(), func) {
+        Ok(members) => put_tags(page, members.as_slice()),
+        Err(_) => page.fail(),
     }
-    let members = reply_of(alloc, func)?;
-    tags_of(alloc, members.as_slice())
+    page.add(", reply");
+    match reply_of(page.alloc(), func) {
+        Ok(members) => put_tags(page, members.as_slice()),
+        Err(_) => page.fail(),
+    }
 }
 
 /// `members COUNT`: the tags of a call's arguments and of its reply.
-pub fn members(alloc: Global, count: &[u8]) -> Result<String, AllocError> {
-    let count = str::from_utf8(count).unwrap_or("");
-    let func = func(alloc, count.parse::<u8>().unwrap_or(0))?;
-    let arguments = argument_tags(alloc, &func)?;
-    let reply = reply_tags(alloc, &func)?;
-    format!(in alloc; "arguments{arguments}, reply{reply}")
+pub fn put_members(page: &mut Page, count: &str) {
+    match func(page.alloc(), count.parse::<u8>().unwrap_or(0)) {
+        Ok(func) => put_func(page, &func),
+        Err(_) => page.fail(),
+    }
 }
 
-fn interface(alloc: Global) -> Result<InterfaceDesc, AllocError> {
+fn interface(alloc: Global, name: &[u8]) -> Result<InterfaceDesc, AllocError>
+    ensures { IfOk result (λ i. i ≡ plain_interface name.now) }
+{
     let module = Name::from_slice(alloc, b"M")?;
-    let name = Name::from_slice(alloc, b"I")?;
+    let name = Name::from_slice(alloc, name)?;
     Ok(InterfaceDesc {
         module,
         name,
@@ -92,18 +95,33 @@ fn interface(alloc: Global) -> Result<InterfaceDesc, AllocError> {
     })
 }
 
+/// Adds an interface of this name, and returns its number.
+fn add(alloc: Global, schema: &mut Schema, name: &[u8]) -> Result<u32, AllocError>
+    requires { InterfaceFits schema.old (plain_interface name.now) }
+    ensures { OnOk result (schema.new ≡ with_interface schema.old (plain_interface name.now)) }
+{
+    schema.add_interface(interface(alloc, name)?)
+}
+
+/// Adds three interfaces, and returns their numbers.
+fn add_three(alloc: Global, schema: &mut Schema) -> Result<[u32; 3], AllocError>
+    requires { schema.old ≡ nothing_declared }
+{
+    let first = add(alloc, schema, b"A")?;
+    let second = add(alloc, schema, b"B")?;
+    let third = add(alloc, schema, b"C")?;
+    Ok([first, second, third])
+}
+
 /// `interfaces`: the numbers of the first three that are added.
-pub fn interfaces(alloc: Global) -> Result<String, AllocError> {
-    let mut schema = Schema::empty(alloc);
-    let mut all = String::new(alloc);
-    for _ in 0..3 {
-        let interface = interface(alloc)?;
-        if schema.interfaces.as_slice().len() < 3 {
-            let number = schema.add_interface(interface)?;
-            let one = format!(in alloc; "{number} ")?;
-            all.push_str(&one)?;
+pub fn put_interfaces(page: &mut Page) {
+    let mut schema = Schema::empty(page.alloc());
+    match add_three(page.alloc(), &mut schema) {
+        Ok(numbers) => {
+            let [first, second, third] = numbers;
+            let kept = schema.interfaces().len();
+            page.show(format_args!("{first} {second} {third} of {kept}"));
         }
+        Err(_) => page.fail(),
     }
-    let kept = schema.interfaces.as_slice().len();
-    format!(in alloc; "{all}of {kept}")
 }

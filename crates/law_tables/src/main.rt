@@ -7,17 +7,21 @@
 //! of tagged fields (docs/PROTOCOL.md, "Reading"), so that scanning can be timed.
 #![tactic(auto)]
 
+mod bodies;
 mod codec;
 mod descriptors;
-mod entries;
-mod fields;
+mod files;
 mod outside;
+mod page;
 mod row_text;
 mod rows;
 mod shape;
+mod tokens;
+mod values;
 mod walk;
 
-use rows::answer;
+use page::Page;
+use rows::put_row;
 use std::{env, fs, io, str};
 use tars_wire::scan;
 
@@ -36,28 +40,40 @@ fn print_scan(rt: &HostRuntime, name: &str, bytes: &[u8]) -> io::Result<()> {
     }
 }
 
+/// Prints what comes of a row.
+fn print_row(rt: &HostRuntime, row: &str) -> io::Result<()> {
+    let mut page = Page::new(rt.alloc());
+    put_row(&mut page, row);
+    match page.into_text() {
+        Ok(text) => println!(rt; "{text}"),
+        Err(_) => println!(rt; "no memory"),
+    }
+}
+
 /// Prints what comes of each row of a table.
 fn print_rows(rt: &HostRuntime, name: &str, bytes: &[u8]) -> io::Result<()> {
     let Ok(text) = str::from_utf8(bytes) else {
         return println!(rt; "{name}: no text");
     };
     for row in text.lines() {
-        match answer(rt.alloc(), row) {
-            Ok(answer) => println!(rt; "{answer}")?,
-            Err(_) => println!(rt; "no memory")?,
-        }
+        print_row(rt, row)?;
     }
     Ok(())
 }
 
+/// Prints what comes of a file.
+fn print_file(rt: &HostRuntime, name: &str) -> io::Result<()> {
+    let bytes = fs::read(rt, name)?;
+    if name.ends_with(".rows") {
+        print_rows(rt, name, &bytes)
+    } else {
+        print_scan(rt, name, &bytes)
+    }
+}
+
 fn main(rt: HostRuntime) -> io::Result<()> {
     for name in env::args(&rt)?.skip(1) {
-        let bytes = fs::read(&rt, &name)?;
-        if name.ends_with(".rows") {
-            print_rows(&rt, &name, &bytes)?;
-        } else {
-            print_scan(&rt, &name, &bytes)?;
-        }
+        print_file(&rt, &name)?;
     }
     Ok(())
 }

@@ -1,8 +1,20 @@
 //! Files and sinks in memory, of which calls fail, and how a run ends.
 
+use crate::page::Page;
+use crate::row_text::split_word;
 use std::alloc::{AllocError, Global};
 use std::str;
 use tars_base::{Files, MemFiles, MemSink, NamedFile, ReadFault, Sink, Status, write_all};
+
+/// The short files of all rows.
+const FILES: [(&str, &[u8]); 3] = [
+    ("a.tars", b"module"),
+    ("b.tars", b""),
+    ("a.tars", b"second"),
+];
+
+/// How many bytes the file `long` has.
+const LONG: usize = 1048577;
 
 fn file(alloc: Global, name: &str, bytes: &[u8]) -> Result<NamedFile, AllocError> {
     let name = String::from_str(alloc, name)?;
@@ -10,15 +22,24 @@ fn file(alloc: Global, name: &str, bytes: &[u8]) -> Result<NamedFile, AllocError
     Ok(NamedFile { name, bytes })
 }
 
+/// A long file.
+fn long_file(alloc: Global) -> Result<NamedFile, AllocError> {
+    let bytes = vec![in alloc; b'x'; LONG]?;
+    file(alloc, "long", &bytes)
+}
+
+/// Adds the files of all rows.
+fn add_files(alloc: Global, files: &mut Vec<NamedFile>) -> Result<(), AllocError> {
+    for (name, bytes) in &FILES {
+        files.push(file(alloc, name, bytes)?)?;
+    }
+    Ok(files.push(long_file(alloc)?)?)
+}
+
 /// The files of all rows, of which one read is to fail.
 fn files_of(alloc: Global, failing: u64) -> Result<MemFiles, AllocError> {
-    let long = vec![in alloc; b'x'; 1048577]?;
-    let files = vec![in alloc;
-        file(alloc, "a.tars", b"module")?,
-        file(alloc, "b.tars", b"")?,
-        file(alloc, "a.tars", b"second")?,
-        file(alloc, "long", &long)?,
-    ]?;
+    let mut files = Vec::new(alloc);
+    add_files(alloc, &mut files)?;
     Ok(MemFiles::new(files, vec![in alloc; failing]?))
 }
 
@@ -27,73 +48,108 @@ fn number(word: &str) -> usize {
     word.parse::<usize>().unwrap_or(0)
 }
 
-/// `NAME MOST`: what is read of a file. Of more than ten bytes is told how many they are.
-fn read(alloc: Global, files: &mut MemFiles, text: &str) -> Result<String, AllocError> {
-    let (name, most) = text.split_once(' ').unwrap_or((text, ""));
-    match files.read(alloc, name, number(most)) {
-        Ok(bytes) if bytes.len() > 10 => {
-            let len = bytes.len();
-            format!(in alloc; "{len} bytes")
-        }
-        Ok(bytes) => String::from_str(alloc, str::from_utf8(&bytes).unwrap_or("?")),
-        Err(ReadFault::Failed) => String::from_str(alloc, "Failed"),
-        Err(ReadFault::Memory) => Err(AllocError),
+/// Adds what was read of a file. Of more than ten bytes is told how many they are.
+fn put_bytes(page: &mut Page, bytes: &[u8]) {
+    let len = bytes.len();
+    if len > 10 {
+        page.show(format_args!("{len} bytes, "));
+    } else {
+        page.add(str::from_utf8(bytes).unwrap_or("?"));
+        page.add(", ");
     }
 }
 
-/// `reads FAILING: NAME MOST, NAME MOST ..`: what each read gives, and how many files there are.
-pub fn reads(alloc: Global, text: &str) -> Result<String, AllocError> {
-    let (failing, calls) = text.split_once(": ").unwrap_or((text, ""));
-    let mut files = files_of(alloc, failing.parse::<u64>().unwrap_or(0))?;
-    let mut all = String::new(alloc);
+/// `NAME MOST`: what is read of a file.
+fn put_read(page: &mut Page, files: &mut MemFiles, call: &str) {
+    let (name, most) = split_word(call);
+    match files.read(page.alloc(), name, number(most)) {
+        Ok(bytes) => put_bytes(page, &bytes),
+        Err(ReadFault::Failed) => page.add("Failed, "),
+        Err(ReadFault::Memory) => page.fail(),
+    }
+}
+
+/// `NAME MOST, NAME MOST ..`: what is read of each file, and how many files there are.
+fn put_all_reads(page: &mut Page, files: &mut MemFiles, calls: &str) {
     for call in calls.split(", ") {
-        let read = read(alloc, &mut files, call)?;
-        all.push_str(&read)?;
-        all.push_str(", ")?;
+        put_read(page, files, call);
     }
     let count = files.files().len();
-    format!(in alloc; "{all}of {count} files")
+    page.show(format_args!("of {count} files"));
+}
+
+/// `reads FAILING: NAME MOST, NAME MOST ..`: what each read gives.
+pub fn put_reads(page: &mut Page, text: &str) {
+    let (failing, calls) = text.split_once(": ").unwrap_or((text, ""));
+    match files_of(page.alloc(), failing.parse::<u64>().unwrap_or(0)) {
+        Ok(files) => {
+            let mut files = files;
+            put_all_reads(page, &mut files, calls);
+        }
+        Err(_) => page.fail(),
+    }
 }
 
 /// `ROOM TEXT`: makes room for at least so many bytes more, and writes the text.
-fn write(alloc: Global, sink: &mut MemSink, call: &str) -> Result<&'static str, AllocError> {
-    let (room, text) = call.split_once(' ').unwrap_or((call, ""));
-    sink.reserve(alloc, number(room))?;
+fn put_write(page: &mut Page, sink: &mut MemSink, call: &str) {
+    let (room, text) = split_word(call);
+    if sink.reserve(page.alloc(), number(room)).is_err() {
+        page.fail();
+    }
     match write_all(sink, text.as_bytes()) {
-        Ok(()) => Ok("Ok, "),
-        Err(_) => Ok("Failed, "),
+        Ok(()) => page.add("Ok, "),
+        Err(_) => page.add("Failed, "),
     }
 }
 
-/// `writes STEP FAILING: ROOM TEXT, ROOM TEXT ..`: what comes of each, and the bytes that the sink holds.
-pub fn writes(alloc: Global, text: &str) -> Result<String, AllocError> {
-    let (head, calls) = text.split_once(": ").unwrap_or((text, ""));
-    let (step, failing) = head.split_once(' ').unwrap_or((head, ""));
-    let failing = vec![in alloc; failing.parse::<u64>().unwrap_or(0)]?;
-    let mut sink = MemSink::new(alloc, number(step).max(1), failing);
-    let mut all = String::new(alloc);
+/// `ROOM TEXT, ROOM TEXT ..`: what comes of each, and the bytes that the sink holds.
+fn put_all_writes(page: &mut Page, sink: &mut MemSink, calls: &str) {
     for call in calls.split(", ") {
-        all.push_str(write(alloc, &mut sink, call)?)?;
+        put_write(page, sink, call);
     }
-    let held = str::from_utf8(sink.bytes()).unwrap_or("?");
-    format!(in alloc; "{all}holds \"{held}\"")
+    page.add("holds \"");
+    page.add(str::from_utf8(sink.bytes()).unwrap_or("?"));
+    page.add("\"");
 }
 
-/// `copies MOST`: how much of a long file is read, and how much a sink holds that takes a thousand bytes at a time.
-pub fn copies(alloc: Global, most: &str) -> Result<String, AllocError> {
-    let mut files = files_of(alloc, 0)?;
-    let Ok(bytes) = files.read(alloc, "long", number(most)) else {
-        return Err(AllocError);
-    };
-    let mut sink = MemSink::new(alloc, 1000, Vec::new(alloc));
-    sink.reserve(alloc, bytes.len())?;
-    let came = write_all(&mut sink, &bytes);
+/// `writes STEP FAILING: ROOM TEXT, ROOM TEXT ..`: what comes of each.
+pub fn put_writes(page: &mut Page, text: &str) {
+    let (head, calls) = text.split_once(": ").unwrap_or((text, ""));
+    let (step, failing) = split_word(head);
+    match vec![in page.alloc(); failing.parse::<u64>().unwrap_or(0)] {
+        Ok(failing) => {
+            let mut sink = MemSink::new(page.alloc(), number(step).max(1), failing);
+            put_all_writes(page, &mut sink, calls);
+        }
+        Err(_) => page.fail(),
+    }
+}
+
+/// Adds how much of bytes a sink holds that takes a thousand at a time.
+fn put_copied(page: &mut Page, bytes: &[u8]) {
+    let mut sink = MemSink::new(page.alloc(), 1000, Vec::new(page.alloc()));
+    if sink.reserve(page.alloc(), bytes.len()).is_err() {
+        page.fail();
+    }
+    let came = write_all(&mut sink, bytes);
     let (read, held) = (bytes.len(), sink.bytes().len());
-    format!(in alloc; "{came:?}, {read} read, {held} written")
+    page.show(format_args!("{came:?}, {read} read, {held} written"));
+}
+
+/// `copies MOST`: how much of a long file is read, and how much of that a sink holds.
+pub fn put_copy(page: &mut Page, most: &str) {
+    let Ok(files) = files_of(page.alloc(), 0) else {
+        return page.fail();
+    };
+    let mut files = files;
+    match files.read(page.alloc(), "long", number(most)) {
+        Ok(bytes) => put_copied(page, &bytes),
+        Err(_) => page.fail(),
+    }
 }
 
 /// `status WORD`: its number, and its line.
-pub fn status(alloc: Global, word: &str) -> Result<String, AllocError> {
+pub fn put_status(page: &mut Page, word: &str) {
     let status = match word {
         "Done" => Status::Done,
         "Refused" => Status::Refused,
@@ -103,7 +159,7 @@ pub fn status(alloc: Global, word: &str) -> Result<String, AllocError> {
         "Memory" => Status::Memory,
         _ => Status::NetFault,
     };
-    let number = status.number();
-    let line = status.message().unwrap_or("no line");
-    format!(in alloc; "{number}, {line}")
+    page.show(status.number());
+    page.add(", ");
+    page.add(status.message().unwrap_or("no line"));
 }

@@ -1,6 +1,11 @@
-//! The bytes that a row's text stands for.
+//! The words of a row, and the bytes that its text stands for.
 
 use std::alloc::{AllocError, Global};
+
+/// The first word of a text, and what stands after it.
+pub fn split_word(text: &str) -> (&str, &str) {
+    text.split_once(' ').unwrap_or((text, ""))
+}
 
 /// The value of a hexadecimal digit; 0 for another byte.
 fn hex_digit(digit: u8) -> u8 {
@@ -12,34 +17,36 @@ fn hex_digit(digit: u8) -> u8 {
 }
 
 /// What `N(PIECE)` stands for: so many times the piece. What has not this form stands for nothing.
-fn repeated(alloc: Global, text: &str) -> Result<Vec<u8>, AllocError> {
-    let mut bytes = Vec::new(alloc);
-    if let Some((count, more)) = text.split_once('(') {
-        if let Some((piece, rest)) = more.split_once(')') {
-            for _ in 0..count.parse::<u32>().unwrap_or(0) {
-                bytes.extend_from_slice(piece.as_bytes())?;
-            }
-            bytes.extend_from_slice(rest.as_bytes())?;
-        }
+fn add_repeated(bytes: &mut Vec<u8>, text: &str) -> Result<(), AllocError> {
+    let Some((count, more)) = text.split_once('(') else {
+        return Ok(());
+    };
+    let Some((piece, rest)) = more.split_once(')') else {
+        return Ok(());
+    };
+    for _ in 0..count.parse::<u32>().unwrap_or(0) {
+        bytes.extend_from_slice(piece.as_bytes())?;
     }
-    Ok(bytes)
+    bytes.extend_from_slice(rest.as_bytes())
+}
+
+fn add_byte(bytes: &mut Vec<u8>, byte: u8, rest: &[u8]) -> Result<(), AllocError> {
+    bytes.push(byte)?;
+    bytes.extend_from_slice(rest)
 }
 
 /// What stands after a `~`.
-fn escaped(alloc: Global, text: &str) -> Result<Vec<u8>, AllocError> {
-    let (byte, rest) = match text.as_bytes() {
-        [b'n', rest @ ..] => (b'\n', rest),
-        [b't', rest @ ..] => (b'\t', rest),
-        [b'r', rest @ ..] => (b'\r', rest),
+fn add_escaped(bytes: &mut Vec<u8>, text: &str) -> Result<(), AllocError> {
+    match text.as_bytes() {
+        [b'n', rest @ ..] => add_byte(bytes, b'\n', rest),
+        [b't', rest @ ..] => add_byte(bytes, b'\t', rest),
+        [b'r', rest @ ..] => add_byte(bytes, b'\r', rest),
         [b'x', high, low, rest @ ..] => {
-            (hex_digit(*high).wrapping_mul(16) | hex_digit(*low), rest)
+            let byte = hex_digit(*high).wrapping_mul(16) | hex_digit(*low);
+            add_byte(bytes, byte, rest)
         }
-        _ => return repeated(alloc, text),
-    };
-    let mut bytes = Vec::new(alloc);
-    bytes.push(byte)?;
-    bytes.extend_from_slice(rest)?;
-    Ok(bytes)
+        _ => add_repeated(bytes, text),
+    }
 }
 
 /// The bytes of a row's text. `~n`, `~t`, `~r` and `~xHH` stand for a byte, and `~N(PIECE)` for so many
@@ -50,8 +57,7 @@ pub fn bytes_of(alloc: Global, text: &str) -> Result<Vec<u8>, AllocError> {
     };
     let mut bytes = Vec::from_slice(alloc, prefix.as_bytes())?;
     for piece in more.split('~') {
-        let piece = escaped(alloc, piece)?;
-        bytes.extend_from_slice(&piece)?;
+        add_escaped(&mut bytes, piece)?;
     }
     Ok(bytes)
 }

@@ -2,9 +2,9 @@
 //! type and a literal stand by the name of their variant, and after `@` is the span of a word that
 //! the tree keeps as a span.
 
+use crate::page::Page;
 use idl_parse::Span;
 use idl_parse::tree::*;
-use std::alloc::{AllocError, Global};
 use std::str;
 
 /// The bytes of a span.
@@ -15,188 +15,173 @@ fn word<'a>(text: &'a [u8], span: Span) -> &'a str {
     str::from_utf8(bytes).unwrap_or("?")
 }
 
-fn name_of(alloc: Global, text: &[u8], name: &ScopedName) -> Result<String, AllocError> {
-    let last = word(text, name.name);
-    match name.scope {
-        Some(scope) => {
-            let scope = word(text, scope);
-            format!(in alloc; "{scope}::{last}")
-        }
-        None => String::from_str(alloc, last),
+fn put_name(page: &mut Page, text: &[u8], name: &ScopedName) {
+    if let Some(scope) = name.scope {
+        page.add(word(text, scope));
+        page.add("::");
     }
+    page.add(word(text, name.name));
 }
 
-fn type_of(alloc: Global, text: &[u8], ty: &TypeTree) -> Result<String, AllocError> {
+fn put_type(page: &mut Page, text: &[u8], ty: &TypeTree) {
     match ty {
-        TypeTree::Basic { basic, .. } => format!(in alloc; "{basic:?}"),
-        TypeTree::Named(name) => name_of(alloc, text, name),
+        TypeTree::Basic { basic, .. } => page.show(format_args!("{basic:?}")),
+        TypeTree::Named(name) => put_name(page, text, name),
         TypeTree::Vector { element, .. } => {
-            let element = type_of(alloc, text, element.get())?;
-            format!(in alloc; "vector<{element}>")
+            page.add("vector<");
+            put_type(page, text, element.get());
+            page.add(">");
         }
         TypeTree::Map { key, value, .. } => {
-            let key = type_of(alloc, text, key.get())?;
-            let value = type_of(alloc, text, value.get())?;
-            format!(in alloc; "map<{key},{value}>")
+            page.add("map<");
+            put_type(page, text, key.get());
+            page.add(",");
+            put_type(page, text, value.get());
+            page.add(">");
         }
     }
 }
 
-fn typed_of(alloc: Global, text: &[u8], typed: &TypedName) -> Result<String, AllocError> {
-    let ty = type_of(alloc, text, &typed.ty)?;
-    let name = word(text, typed.name);
-    format!(in alloc; "{ty} {name}")
+fn put_typed(page: &mut Page, text: &[u8], typed: &TypedName) {
+    put_type(page, text, &typed.ty);
+    page.add(" ");
+    page.add(word(text, typed.name));
 }
 
-fn literal_of(alloc: Global, text: &[u8], literal: &Literal) -> Result<String, AllocError> {
+fn put_literal(page: &mut Page, text: &[u8], literal: &Literal) {
+    page.add("=");
     match literal {
         Literal::Word { word: kind, span } => {
-            let bytes = word(text, *span);
-            format!(in alloc; "={kind:?} {bytes}")
+            page.show(format_args!("{kind:?} "));
+            page.add(word(text, *span));
         }
-        Literal::Named(name) => {
-            let name = name_of(alloc, text, name)?;
-            format!(in alloc; "={name}")
-        }
+        Literal::Named(name) => put_name(page, text, name),
     }
 }
 
-fn array_of(alloc: Global, text: &[u8], array: &Option<ArrayLen>) -> Result<String, AllocError> {
-    match array {
-        Some(array) => {
-            let length = word(text, array.length);
-            let at = array.at;
-            format!(in alloc; "[{length}]@{at}")
-        }
-        None => Ok(String::new(alloc)),
+fn put_member(page: &mut Page, text: &[u8], member: &MemberTree) {
+    page.add(word(text, member.tag));
+    page.add(match member.requirement {
+        Requirement::Require => " require ",
+        Requirement::Optional => " optional ",
+    });
+    put_typed(page, text, &member.typed);
+    if let Some(array) = &member.array {
+        let (length, at) = (word(text, array.length), array.at);
+        page.show(format_args!("[{length}]@{at}"));
     }
+    if let Some(literal) = &member.default {
+        put_literal(page, text, literal);
+    }
+    page.add(";");
 }
 
-fn member_of(alloc: Global, text: &[u8], member: &MemberTree) -> Result<String, AllocError> {
-    let tag = word(text, member.tag);
-    let need = match member.requirement {
-        Requirement::Require => "require",
-        Requirement::Optional => "optional",
-    };
-    let typed = typed_of(alloc, text, &member.typed)?;
-    let array = array_of(alloc, text, &member.array)?;
-    let default = match &member.default {
-        Some(literal) => literal_of(alloc, text, literal)?,
-        None => String::new(alloc),
-    };
-    format!(in alloc; "{tag} {need} {typed}{array}{default};")
-}
-
-fn struct_of(alloc: Global, text: &[u8], tree: &StructTree) -> Result<String, AllocError> {
-    let name = word(text, tree.name);
-    let mut all = format!(in alloc; "struct {name}{{")?;
+fn put_struct(page: &mut Page, text: &[u8], tree: &StructTree) {
+    page.add("struct ");
+    page.add(word(text, tree.name));
+    page.add("{");
     for member in tree.members.as_slice() {
-        let one = member_of(alloc, text, member)?;
-        all.push_str(&one)?;
+        put_member(page, text, member);
     }
-    all.push_str("};")?;
-    Ok(all)
+    page.add("};");
 }
 
-fn enum_of(alloc: Global, text: &[u8], tree: &EnumTree) -> Result<String, AllocError> {
-    let name = word(text, tree.name);
-    let mut all = format!(in alloc; "enum {name}{{")?;
+fn put_enum(page: &mut Page, text: &[u8], tree: &EnumTree) {
+    page.add("enum ");
+    page.add(word(text, tree.name));
+    page.add("{");
     for item in tree.items.as_slice() {
-        all.push_str(word(text, item.name))?;
+        page.add(word(text, item.name));
         if let Some(number) = item.number {
-            all.push_str("=")?;
-            all.push_str(word(text, number))?;
+            page.add("=");
+            page.add(word(text, number));
         }
-        all.push_str(",")?;
+        page.add(",");
     }
-    all.push_str("};")?;
-    Ok(all)
+    page.add("};");
 }
 
-fn key_of(alloc: Global, text: &[u8], tree: &KeyTree) -> Result<String, AllocError> {
-    let struct_name = word(text, tree.struct_name);
-    let mut all = format!(in alloc; "key {struct_name}[")?;
+fn put_key(page: &mut Page, text: &[u8], tree: &KeyTree) {
+    page.add("key ");
+    page.add(word(text, tree.struct_name));
+    page.add("[");
     for member in tree.members.as_slice() {
-        all.push_str(word(text, *member))?;
-        all.push_str(",")?;
+        page.add(word(text, *member));
+        page.add(",");
     }
-    all.push_str("];")?;
-    Ok(all)
+    page.add("];");
 }
 
-fn param_of(alloc: Global, text: &[u8], param: &ParamTree) -> Result<String, AllocError> {
-    let routekey = match param.routekey {
-        Some(at) => format!(in alloc; "routekey@{at} ")?,
-        None => String::new(alloc),
-    };
-    let out = if param.out { "out " } else { "" };
-    let typed = typed_of(alloc, text, &param.typed)?;
-    format!(in alloc; "{routekey}{out}{typed},")
+fn put_param(page: &mut Page, text: &[u8], param: &ParamTree) {
+    if let Some(at) = param.routekey {
+        page.show(format_args!("routekey@{at} "));
+    }
+    if param.out {
+        page.add("out ");
+    }
+    put_typed(page, text, &param.typed);
+    page.add(",");
 }
 
-fn func_of(alloc: Global, text: &[u8], func: &FuncTree) -> Result<String, AllocError> {
-    let ret = match &func.ret {
-        Some(ty) => type_of(alloc, text, ty)?,
-        None => String::from_str(alloc, "void")?,
-    };
-    let name = word(text, func.name);
-    let mut all = format!(in alloc; "{ret} {name}(")?;
+fn put_func(page: &mut Page, text: &[u8], func: &FuncTree) {
+    match &func.ret {
+        Some(ty) => put_type(page, text, ty),
+        None => page.add("void"),
+    }
+    page.add(" ");
+    page.add(word(text, func.name));
+    page.add("(");
     for param in func.params.as_slice() {
-        let one = param_of(alloc, text, param)?;
-        all.push_str(&one)?;
+        put_param(page, text, param);
     }
-    all.push_str(");")?;
-    Ok(all)
+    page.add(");");
 }
 
-fn interface_of(alloc: Global, text: &[u8], tree: &InterfaceTree) -> Result<String, AllocError> {
-    let name = word(text, tree.name);
-    let mut all = format!(in alloc; "interface {name}{{")?;
+fn put_interface(page: &mut Page, text: &[u8], tree: &InterfaceTree) {
+    page.add("interface ");
+    page.add(word(text, tree.name));
+    page.add("{");
     for func in tree.funcs.as_slice() {
-        let one = func_of(alloc, text, func)?;
-        all.push_str(&one)?;
+        put_func(page, text, func);
     }
-    all.push_str("};")?;
-    Ok(all)
+    page.add("};");
 }
 
-fn decl_of(alloc: Global, text: &[u8], decl: &DeclTree) -> Result<String, AllocError> {
+fn put_decl(page: &mut Page, text: &[u8], decl: &DeclTree) {
     match decl {
-        DeclTree::Struct(tree) => struct_of(alloc, text, tree),
-        DeclTree::Enum(tree) => enum_of(alloc, text, tree),
+        DeclTree::Struct(tree) => put_struct(page, text, tree),
+        DeclTree::Enum(tree) => put_enum(page, text, tree),
         DeclTree::Const(tree) => {
-            let typed = typed_of(alloc, text, &tree.typed)?;
-            let value = literal_of(alloc, text, &tree.value)?;
-            format!(in alloc; "const {typed}{value};")
+            page.add("const ");
+            put_typed(page, text, &tree.typed);
+            put_literal(page, text, &tree.value);
+            page.add(";");
         }
-        DeclTree::Key(tree) => key_of(alloc, text, tree),
-        DeclTree::Interface(tree) => interface_of(alloc, text, tree),
+        DeclTree::Key(tree) => put_key(page, text, tree),
+        DeclTree::Interface(tree) => put_interface(page, text, tree),
     }
 }
 
-fn module_of(alloc: Global, text: &[u8], tree: &ModuleTree) -> Result<String, AllocError> {
-    let name = word(text, tree.name);
-    let mut all = format!(in alloc; "module {name}{{")?;
+fn put_module(page: &mut Page, text: &[u8], tree: &ModuleTree) {
+    page.add("module ");
+    page.add(word(text, tree.name));
+    page.add("{");
     for decl in tree.decls.as_slice() {
-        let one = decl_of(alloc, text, decl)?;
-        all.push_str(&one)?;
+        put_decl(page, text, decl);
     }
-    all.push_str("};")?;
-    Ok(all)
+    page.add("};");
 }
 
-/// What a text has, by the tree that it was read as.
-pub fn shape_of(alloc: Global, text: &[u8], entries: &[Entry]) -> Result<String, AllocError> {
-    let mut all = String::new(alloc);
+/// Adds what a text has, by the tree that it was read as.
+pub fn put_shape(page: &mut Page, text: &[u8], entries: &[Entry]) {
     for entry in entries {
-        let one = match entry {
+        match entry {
             Entry::Include(span) => {
-                let name = word(text, *span);
-                format!(in alloc; "include {name};")?
+                page.add("include ");
+                page.add(word(text, *span));
+                page.add(";");
             }
-            Entry::Module(tree) => module_of(alloc, text, tree)?,
-        };
-        all.push_str(&one)?;
+            Entry::Module(tree) => put_module(page, text, tree),
+        }
     }
-    Ok(all)
 }

@@ -1,11 +1,36 @@
 //! A walk over a body: each field by its tag and type, with what it holds.
 
-ghost use Rattle.std.specs.Prelude.{◌<◌, ◌^◌, length, IsSome};
-ghost use Rattle.tars_wire.specs.Left.{HasEntered};
+ghost use Rattle.std.specs.Prelude.{◌≡◌, ◌<◌, ◌^◌, length, IsSome};
+ghost use Rattle.tars_wire.specs.Heads.{opens};
+ghost use Rattle.tars_wire.specs.Left.{HasEntered, is_number_type, is_text_type};
 
-use std::alloc::{AllocError, Global};
+use crate::page::Page;
 use std::str;
 use tars_wire::{Cursor, Head, WireType, scan};
+
+/// The most fields that are shown.
+const MOST_FIELDS: u32 = 100;
+
+fn is_number(kind: WireType) -> bool
+    ensures { result ≡ is_number_type kind }
+{
+    matches!(
+        kind,
+        WireType::ZeroTag | WireType::Int1 | WireType::Int2 | WireType::Int4 | WireType::Int8
+    )
+}
+
+fn is_text(kind: WireType) -> bool
+    ensures { result ≡ is_text_type kind }
+{
+    matches!(kind, WireType::String1 | WireType::String4)
+}
+
+fn is_entered(kind: WireType) -> bool
+    ensures { result ≡ opens kind }
+{
+    matches!(kind, WireType::List | WireType::Map | WireType::StructBegin)
+}
 
 /// The next field's number, if it is one.
 #[tactic(auto, using(tars_wire::proofs::CallerLemmas::next_is, tars_wire::proofs::CallerLemmas::still_entered))]
@@ -13,13 +38,10 @@ fn number(cursor: &mut Cursor<'_>) -> Option<i64>
     ensures { HasEntered cursor.old → HasEntered cursor.new }
 {
     let head = cursor.head()?;
-    match head.kind {
-        WireType::ZeroTag => Some(cursor.number()),
-        WireType::Int1 => Some(cursor.number()),
-        WireType::Int2 => Some(cursor.number()),
-        WireType::Int4 => Some(cursor.number()),
-        WireType::Int8 => Some(cursor.number()),
-        _ => None,
+    if is_number(head.kind) {
+        Some(cursor.number())
+    } else {
+        None
     }
 }
 
@@ -29,10 +51,10 @@ fn text<'a>(cursor: &mut Cursor<'a>) -> Option<&'a [u8]>
     ensures { HasEntered cursor.old → HasEntered cursor.new }
 {
     let head = cursor.head()?;
-    match head.kind {
-        WireType::String1 => Some(cursor.text()),
-        WireType::String4 => Some(cursor.text()),
-        _ => None,
+    if is_text(head.kind) {
+        Some(cursor.text())
+    } else {
+        None
     }
 }
 
@@ -64,83 +86,84 @@ fn enter(cursor: &mut Cursor<'_>) -> Option<u32>
     ensures { IsSome result → HasEntered cursor.new }
 {
     let head = cursor.head()?;
-    match head.kind {
-        WireType::List => Some(cursor.enter()),
-        WireType::Map => Some(cursor.enter()),
-        WireType::StructBegin => Some(cursor.enter()),
-        _ => None,
+    if is_entered(head.kind) {
+        Some(cursor.enter())
+    } else {
+        None
     }
 }
 
-/// What the next field holds. One that is no number, text or simple list is skipped.
-fn held(alloc: Global, cursor: &mut Cursor<'_>) -> Result<String, AllocError>
+/// Adds what the next field holds. One that is no number, text or simple list is skipped.
+fn put_held(page: &mut Page, cursor: &mut Cursor<'_>)
     ensures { HasEntered cursor.old → HasEntered cursor.new }
 {
     if let Some(number) = number(cursor) {
-        return format!(in alloc; "{number}");
+        page.show(number);
+    } else if let Some(bytes) = text(cursor) {
+        page.add(str::from_utf8(bytes).unwrap_or("?"));
+    } else if let Some(bytes) = simple(cursor) {
+        page.add_hex(bytes);
+    } else {
+        let _ = skip(cursor);
+        page.add("skipped");
     }
-    if let Some(bytes) = text(cursor) {
-        return String::from_str(alloc, str::from_utf8(bytes).unwrap_or("?"));
-    }
-    if let Some(bytes) = simple(cursor) {
-        return hex::encode_upper(alloc, bytes);
-    }
-    let _ = skip(cursor);
-    String::from_str(alloc, "skipped")
 }
 
-/// The next field by its tag and type, or that there is none.
-fn shown(alloc: Global, head: Option<Head>) -> Result<String, AllocError> {
+/// Adds the next field's tag and type, or that there is none.
+fn put_head(page: &mut Page, head: Option<Head>) {
     match head {
         Some(head) => {
             let (tag, kind) = (head.tag, head.kind);
-            format!(in alloc; "{tag}:{kind:?}")
+            page.show(format_args!("{tag}:{kind:?}"));
         }
-        None => String::from_str(alloc, "end"),
+        None => page.add("end"),
     }
 }
 
-/// The first field of what was entered, and what comes after it.
-fn first(alloc: Global, cursor: &mut Cursor<'_>) -> Result<String, AllocError>
+/// Adds the next field.
+fn put_single(page: &mut Page, cursor: &mut Cursor<'_>)
     ensures { HasEntered cursor.old → HasEntered cursor.new }
 {
-    let head = shown(alloc, cursor.head())?;
-    let held = held(alloc, cursor)?;
-    let next = shown(alloc, cursor.head())?;
-    format!(in alloc; "{head} {held}, {next}")
+    page.add(" ");
+    put_held(page, cursor);
+    page.add(", ");
 }
 
-/// The next field. Of a list, a map or a struct the size and the first field; then it is left.
-fn field(alloc: Global, cursor: &mut Cursor<'_>) -> Result<String, AllocError> {
-    let head = shown(alloc, cursor.head())?;
+/// Adds the first field of what was entered, and what comes after it; then it is left.
+fn put_inside(page: &mut Page, cursor: &mut Cursor<'_>, size: u32)
+    requires { HasEntered cursor.old }
+{
+    page.show(format_args!(" {size} ("));
+    put_head(page, cursor.head());
+    put_single(page, cursor);
+    put_head(page, cursor.head());
+    cursor.leave();
+    page.add("), ");
+}
+
+/// Adds the next field. Of a list, a map or a struct the size and the first field.
+fn put_field(page: &mut Page, cursor: &mut Cursor<'_>) {
+    put_head(page, cursor.head());
     match enter(cursor) {
-        Some(size) => {
-            let first = first(alloc, cursor)?;
-            cursor.leave();
-            format!(in alloc; "{head} {size} ({first}), ")
-        }
-        None => {
-            let held = held(alloc, cursor)?;
-            format!(in alloc; "{head} {held}, ")
-        }
+        Some(size) => put_inside(page, cursor, size),
+        None => put_single(page, cursor),
     }
 }
 
-/// `walk HEX`: each field of the body, up to a hundred.
-pub fn walked(alloc: Global, bytes: &[u8]) -> Result<String, AllocError>
+fn put_fields(page: &mut Page, cursor: &mut Cursor<'_>) {
+    for _ in 0..MOST_FIELDS {
+        if cursor.head().is_none() {
+            return page.add("end");
+        }
+        put_field(page, cursor);
+    }
+}
+
+/// `walk HEX`: each field of the body.
+pub fn put_walk(page: &mut Page, bytes: &[u8])
     requires { length bytes.now < 2 ^ 31 }
 {
-    let mut all = String::new(alloc);
     if let Ok(checked) = scan(bytes) {
-        let mut cursor = checked.cursor();
-        for _ in 0..100 {
-            if cursor.head().is_none() {
-                all.push_str("end")?;
-                break;
-            }
-            let field = field(alloc, &mut cursor)?;
-            all.push_str(&field)?;
-        }
+        put_fields(page, &mut checked.cursor());
     }
-    Ok(all)
 }
