@@ -1,0 +1,4 @@
+pub mod SchemaOf
+pub mod Agreement
+pub mod Faultless
+pub mod Reading
