@@ -9,18 +9,13 @@ use tars_model::{Schema, Ty};
 use text_buffer::TextBuffer;
 
 #[tactic(auto, unfolding(crate::specs::Canonical::name_text))]
-fn put_name(
-    text: &mut TextBuffer,
-    home: &[u8],
-    module: &[u8],
-    name: &[u8],
-) -> Result<(), AllocError>
-    ensures { OnOk result (text.new ≡ text.old ++ name_text home.now module.now name.now) }
+fn put_name(text: &mut TextBuffer, home: &[u8], own: &[u8], name: &[u8]) -> Result<(), AllocError>
+    ensures { OnOk result (text.new ≡ text.old ++ name_text home.now own.now name.now) }
 {
-    if module == home {
+    if own == home {
         return text.put(name);
     }
-    text.put(module)?;
+    text.put(own)?;
     text.word("::")?;
     text.put(name)
 }
