@@ -10,8 +10,8 @@ use Rattle.tars_model.specs.declared.enum_desc.EnumDesc.{EnumDesc}
 use Rattle.tars_model.specs.declared.enum_desc.Item.{Item as Enumerator}
 use Rattle.tars_model.specs.declared.member.Member.{Member}
 use Rattle.tars_model.specs.declared.struct_desc.StructDesc.{StructDesc}
-use Rattle.idl_rules.specs.Known.{Meaning, a_struct, an_enum, no_type, each_once}
-use Rattle.idl_rules.specs.Types.{is_type}
+use Rattle.idl_scene.specs.Known.{Meaning, a_struct, an_enum, no_type, each_once}
+use Rattle.idl_scene.specs.Types.{is_type}
 use Rattle.idl_schema.specs.Agreement.{StructIs, EnumIs, MeansIn, struct_meant, enum_meant, no_type_meant}
 use Rattle.idl_schema.proofs.Growing.{or_new, get_kept, get_new, depth_kept, depth_new}
 

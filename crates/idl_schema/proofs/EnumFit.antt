@@ -15,12 +15,12 @@ use Rattle.idl_parse.specs.declared.span.Span.{Span}
 use Rattle.idl_parse.specs.declared.tree.decl.DeclTree.TheVariants as decls
 use Rattle.idl_parse.specs.declared.tree.decl.EnumItem.{EnumItem}
 use Rattle.idl_parse.specs.declared.tree.decl.EnumTree.{EnumTree}
-use Rattle.idl_rules.specs.Items.{declared, word}
-use Rattle.idl_rules.specs.Known.{Scene}
-use Rattle.idl_rules.specs.Literals.{number_of_item, number_start}
+use Rattle.idl_scene.specs.Items.{declared, word}
+use Rattle.idl_scene.specs.Known.{Scene}
+use Rattle.idl_scene.specs.Literals.{number_of_item, number_start}
+use Rattle.idl_scene.specs.declared.check_fault.CheckWhy.TheVariants.{TwiceName, TooMany, BadDefault}
 use Rattle.idl_rules.specs.Parts.{NameList, name_list}
 use Rattle.idl_rules.specs.Rules.{twice_declared, reserved_name, too_many, twice_in_list, reserved_in_list, too_many_in_list, bad_number}
-use Rattle.idl_rules.specs.declared.check_fault.CheckWhy.TheVariants.{TwiceName, TooMany, BadDefault}
 use Rattle.idl_schema.specs.Agreement.{Agrees, place_in}
 use Rattle.idl_schema.specs.Faultless.{NoFault}
 use Rattle.idl_schema.specs.SchemaOf.{items_after, enum_of}
@@ -69,18 +69,19 @@ module _ (s : Scene) (d : Declared) (agrees : Agrees (record { known = s.known; 
         sym (length-map items (λ (i : Enumerator). i.name)) ∙ ap length (items_named s.text [] t.items) ∙ length-map t.items (λ (i : EnumItem). word s.text i.name) ∙ sym (length-map t.items (λ (i : EnumItem). i.name)) in
         omega arith
 
+    pub enum_ints : AllByRecursion (λ (i : Enumerator). is_signed 31 i.number ≡ true) items
+    enum_ints = items_ints s [] t.items nothing.bad_number
+
     pub enum_fits : IsName s.home → EnumFits d (enum_of (place_in d s) t)
     enum_fits home = record {
       name = is_new s d t.name agrees.taken (passed _ s.file t.name.start TwiceName (alone_nothing (twice_declared s) [] (decls.Enum t ∷ []) nothing.twice_declared).0) home
           (free_name s t.name inside.0 (alone_nothing (reserved_name s) [] (decls.Enum t ∷ []) nothing.reserved_name).0);
       items = All-from_recursion (λ (i : Enumerator). IsName i.name) items
           (each_of_map IsName (λ (i : Enumerator). i.name) items (subst (AllByRecursion IsName) (sym (items_named s.text [] t.items)) words_named));
+      numbers = All-from_recursion (λ (i : Enumerator). is_signed 31 i.number ≡ true) items enum_ints;
       names_differ = subst AllDiffer (sym (items_named s.text [] t.items)) (all_differ (map (λ (i : EnumItem). word s.text i.name) t.items)
           (apart_mapped Others (λ (i : EnumItem). word s.text i.name) t.items (apart_of_map (OtherWord s) (λ (i : EnumItem). i.name) t.items
           (names_apart s list names (alone_nothing (λ (list : NameList). found_after (twice_in_list s list) [] list.names) [] (list ∷ []) nothing.twice_in_list).0))));
       few = few;
       room = room_left s.room.enums (length d.enums) 1024 (passed _ s.file t.name.start TooMany (alone_nothing (too_many s) [] (decls.Enum t ∷ []) nothing.too_many).0) agrees.enums;
     }
-
-    pub enum_ints : AllByRecursion (λ (i : Enumerator). is_signed 31 i.number ≡ true) items
-    enum_ints = items_ints s [] t.items nothing.bad_number

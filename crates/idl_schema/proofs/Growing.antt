@@ -7,7 +7,7 @@ use Rattle.std.specs.Prelude.{slice_get}
 use Rattle.std.specs.Str.{bytes_eq}
 use Rattle.tars_model.specs.Types.{deepest, depths_after, depths_of}
 use Rattle.tars_model.specs.declared.struct_desc.StructDesc.{StructDesc}
-use Rattle.idl_rules.specs.Known.{Known, find}
+use Rattle.idl_scene.specs.Known.{Known, find}
 
 -- what is there, or a new one
 abbrev pub or_new : {A : Type 0} → Option A → Bool → A → Option A

@@ -6,8 +6,8 @@ use Rattle.std.specs.List.{AllByRecursion}
 use Rattle.tars_model.specs.Values.{is_signed}
 use Rattle.tars_model.specs.declared.enum_desc.Item.{Item as Enumerator}
 use Rattle.idl_parse.specs.declared.tree.decl.EnumItem.{EnumItem}
-use Rattle.idl_rules.specs.Items.{word}
-use Rattle.idl_rules.specs.Literals.{number_after, number_at, next_number, number_of_item}
+use Rattle.idl_scene.specs.Items.{word}
+use Rattle.idl_scene.specs.Literals.{number_after, number_at, next_number, number_of_item}
 use Rattle.idl_schema.specs.SchemaOf.{items_after}
 
 abbrev item_at : List ℕ → List EnumItem → EnumItem → Enumerator

@@ -4,6 +4,8 @@ pub mod NameFits
 pub mod Sorting
 pub mod Meant
 pub mod TypeFits
+pub mod TokenCounts
+pub mod SpelledBytes
 pub mod LiteralFits
 pub mod Unfaulted
 pub mod ListFits
@@ -12,6 +14,7 @@ pub mod PartFits
 pub mod StructFit
 pub mod EnumFit
 pub mod OtherFits
+pub mod NameLaws
 pub mod Once
 pub mod Growing
 pub mod Agreeing
@@ -22,3 +25,4 @@ pub mod InsertLaws
 pub mod ItemLaws
 pub mod Readable
 pub mod Walking
+pub mod KeyCounts

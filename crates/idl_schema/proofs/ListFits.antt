@@ -10,11 +10,11 @@ use Rattle.least_fault.proofs.Walks.{nothing_in}
 use Rattle.tars_model.specs.Names.{IsName}
 use Rattle.idl_parse.specs.TreeSpans.{NameIn}
 use Rattle.idl_parse.specs.declared.span.Span.{Span}
-use Rattle.idl_rules.specs.Items.{word}
-use Rattle.idl_rules.specs.Known.{Scene}
+use Rattle.idl_scene.specs.Items.{word}
+use Rattle.idl_scene.specs.Known.{Scene}
+use Rattle.idl_scene.specs.declared.check_fault.CheckWhy.TheVariants.{TwiceName, BadIdentifier, TooMany}
 use Rattle.idl_rules.specs.Parts.{NameList, name_list}
 use Rattle.idl_rules.specs.Rules.{reserved, twice_in_list, reserved_in_list, too_many_in_list, is_full}
-use Rattle.idl_rules.specs.declared.check_fault.CheckWhy.TheVariants.{TwiceName, BadIdentifier, TooMany}
 use Rattle.idl_schema.proofs.NameFits.{name_fits}
 use Rattle.idl_schema.proofs.Nothing.{passed, alone_nothing}
 use Rattle.idl_schema.proofs.Parts.{each_both, each_weaker, Apart, apart_nothing, Others}

@@ -2,11 +2,12 @@
 use Rattle.std.proofs.Common.{◌≡◌, ◌⊎◌, inl, inr, drop, ◌<◌, ◌≤◌, ◌^◌, ◌-◌, ℕ, ℤ, Bool, true, false, ◌&&◌, cond, Option, Some, None, List, [], ◌∷◌, length, refl, sym, ap, ◌∙◌, subst, arith, lt-ltb}
 use Rattle.std.proofs.lemmas.List.{length-take, length-drop}
 use Rattle.std.proofs.lemmas.Bool.Decides.{nat_tests}
+use Rattle.std.proofs.lemmas.List.Elements.{All-nil, All-same}
 use Rattle.std.specs.List.{AllByRecursion, list_any}
 use Rattle.std.specs.Prelude.{slice_range}
 use Rattle.std.specs.Str.{bytes_eq}
 use Rattle.tars_model.specs.Declarations.{Declared, items_at}
-use Rattle.tars_model.specs.Schemas.{IsLiteral, is_single, text_length}
+use Rattle.tars_model.specs.Schemas.{IsLiteral, is_single, text_bytes, text_length}
 use Rattle.tars_model.specs.Values.{is_signed, is_number_of, is_bool, fits_text}
 use Rattle.tars_model.specs.declared.enum_desc.Item.{Item as Enumerator}
 use Rattle.tars_model.specs.declared.ty.Ty.{Ty, out-Ty}
@@ -32,14 +33,16 @@ use Rattle.idl_parse.specs.declared.tree.type_tree.TypeTree.{TypeTree, out-TypeT
 use Rattle.idl_parse.specs.declared.tree.type_tree.TypeTree.TheOpen as layer
 use Rattle.idl_parse.specs.declared.tree.type_tree.TypeTree.TheVariants as types
 use Rattle.idl_parse.specs.declared.tree.type_tree.TypeTree.TheVariants.{outs-Basic, outs-Vector, outs-Map, outs-Named}
-use Rattle.idl_rules.specs.Items.{word}
-use Rattle.idl_rules.specs.Known.{Meaning, a_struct, an_enum, no_type, Scene, is_enum, enumerators_of}
-use Rattle.idl_rules.specs.Literals as check
-use Rattle.idl_rules.specs.Literals.{is_number_of_word, fits_number, fits_literal, fits_name, names_enum}
-use Rattle.idl_rules.specs.Types.{TypeLayer, meaning_of, is_type}
+use Rattle.idl_scene.specs.Items.{word}
+use Rattle.idl_scene.specs.Known.{Meaning, a_struct, an_enum, no_type, Scene, is_enum, enumerators_of}
+use Rattle.idl_scene.specs.Literals as check
+use Rattle.idl_scene.specs.Literals.{is_number_of_word, fits_number, fits_literal, fits_name, names_enum}
+use Rattle.idl_scene.specs.Types.{TypeLayer, meaning_of, is_type}
 use Rattle.idl_schema.specs.Agreement.{MeansIn, struct_meant, enum_meant, no_type_meant, Agrees, place_in}
+use Rattle.idl_schema.specs.Faultless.{AreBytes}
 use Rattle.idl_schema.specs.SchemaOf.{basic_type, number_named, items_of_type, literal_value}
 use Rattle.idl_schema.proofs.Meant.{meant_type, enum_type, name_means}
+use Rattle.idl_schema.proofs.SpelledBytes.{spelled_bytes}
 use Rattle.idl_schema.proofs.TypeFits.{written, written_at}
 
 -- ---- tests
@@ -156,16 +159,20 @@ module _ (s : Scene) (d : Declared) (agrees : Agrees (record { known = s.known; 
 
   -- ---- values
 
+  no_bytes : (v : Value) → text_bytes (out-Value v) ≡ [] → AreBytes (text_bytes (out-Value v))
+  no_bytes v none = All-same (λ b. b < 256) (text_bytes (out-Value v)) [] none (All-nil (λ b. b < 256))
+
   num_literal : (t : Ty) (n : ℤ) → is_number_of (out-Ty t) n ≡ true → IsLiteral d t (values.Num n)
-  num_literal t n is = record { single = number_single (out-Ty t) n is; is_value = told_fits_num (values.Num n) d t n refl ∙ is }
+  num_literal t n is = record { single = number_single (out-Ty t) n is; is_value = told_fits_num (values.Num n) d t n refl ∙ is; bytes = no_bytes (values.Num n) (ap text_bytes (outs-Num n)) }
 
   bool_literal : (t : Ty) (b : Bool) → out-Ty t ≡ ty.Bool → IsLiteral d t (values.Bool b)
-  bool_literal t b is = record { single = ap is_single is; is_value = told_fits_bool (values.Bool b) d t b refl ∙ ap is_bool is }
+  bool_literal t b is = record { single = ap is_single is; is_value = told_fits_bool (values.Bool b) d t b refl ∙ ap is_bool is; bytes = no_bytes (values.Bool b) (ap text_bytes (outs-Truth b)) }
 
-  text_literal : (t : Ty) (bytes : List ℕ) → out-Ty t ≡ ty.Text → length bytes < 2 ^ 32 → IsLiteral d t (values.Text bytes)
-  text_literal t bytes is short = record {
+  text_literal : (t : Ty) (bytes : List ℕ) → out-Ty t ≡ ty.Text → length bytes < 2 ^ 32 → AreBytes bytes → IsLiteral d t (values.Text bytes)
+  text_literal t bytes is short each = record {
     single = ap is_single is;
     is_value = told_fits_text (values.Text bytes) d t bytes refl ∙ ap (fits_text (length bytes)) is ∙ lt-ltb (length bytes) (2 ^ 32) short;
+    bytes = All-same (λ b. b < 256) (text_bytes (out-Value (values.Text bytes))) bytes (ap text_bytes (outs-Words bytes)) each;
   }
 
   abbrev pub AtMost : Option ℕ → Value → Type 0
@@ -209,18 +216,18 @@ module _ (s : Scene) (d : Declared) (agrees : Agrees (record { known = s.known; 
           (sym (ap out-Ty (enum_type sn en number no_struct is_e) ∙ outs-Enum number)) (number_is_int (word s.text name.name) (items_at d number) enum.ints)
       by_meaning m sn en (no_type_meant none a b) e = not_both _ e (none_listed (word s.text name.name) m none)
 
-  word_spells : (most : Option ℕ) {t : TypeTree} → TypeIn s.text t → (form : LiteralWord) (span : Span) → LiteralIn s.text (literals.Word form span) → length s.text < 2 ^ 32
+  word_spells : (most : Option ℕ) {t : TypeTree} → TypeIn s.text t → (form : LiteralWord) (span : Span) → LiteralIn s.text (literals.Word form span) → length s.text < 2 ^ 32 → AreBytes s.text
       → fits_literal s most (out-TypeTree t) (literals.Word form span) ≡ true → Spells most (written s d t) (literal_value (place_in d s) (written s d t) (literals.Word form span))
-  word_spells most {t} inside words.Number span at short fits =
+  word_spells most {t} inside words.Number span at short bytes fits =
       record { is_literal = num_literal (written s d t) _ (number_fits inside (whole_number (word s.text span)) fits); few = num_few most _ }
-  word_spells most {t} inside words.Fraction span at short fits = absurd cc
-  word_spells most {t} inside words.Text span at short fits =
+  word_spells most {t} inside words.Fraction span at short bytes fits = absurd cc
+  word_spells most {t} inside words.Text span at short bytes fits =
       let both = both_true (check.is_text (out-TypeTree t)) (check.is_short most (plain_text (word s.text span))) fits in
-      record { is_literal = text_literal (written s d t) _ (text_type t both.0) (text_short s.text span short); few = text_few most _ both.1 }
-  word_spells most {t} inside words.True span at short fits = record { is_literal = bool_literal (written s d t) true (bool_type t fits); few = bool_few most true }
-  word_spells most {t} inside words.False span at short fits = record { is_literal = bool_literal (written s d t) false (bool_type t fits); few = bool_few most false }
+      record { is_literal = text_literal (written s d t) _ (text_type t both.0) (text_short s.text span short) (spelled_bytes s.text span at.2 bytes); few = text_few most _ both.1 }
+  word_spells most {t} inside words.True span at short bytes fits = record { is_literal = bool_literal (written s d t) true (bool_type t fits); few = bool_few most true }
+  word_spells most {t} inside words.False span at short bytes fits = record { is_literal = bool_literal (written s d t) false (bool_type t fits); few = bool_few most false }
 
-  pub literal_spells : (most : Option ℕ) {t : TypeTree} → TypeIn s.text t → (l : Literal) → LiteralIn s.text l → length s.text < 2 ^ 32
+  pub literal_spells : (most : Option ℕ) {t : TypeTree} → TypeIn s.text t → (l : Literal) → LiteralIn s.text l → length s.text < 2 ^ 32 → AreBytes s.text
       → fits_literal s most (out-TypeTree t) l ≡ true → Spells most (written s d t) (literal_value (place_in d s) (written s d t) l)
-  literal_spells most {t} inside (literals.Word form span) at short fits = word_spells most inside form span at short fits
-  literal_spells most {t} inside (literals.Named name) at short fits = record { is_literal = num_literal (written s d t) _ (named_fits t name fits); few = num_few most _ }
+  literal_spells most {t} inside (literals.Word form span) at short bytes fits = word_spells most inside form span at short bytes fits
+  literal_spells most {t} inside (literals.Named name) at short bytes fits = record { is_literal = num_literal (written s d t) _ (named_fits t name fits); few = num_few most _ }

@@ -16,9 +16,9 @@ use Rattle.tars_model.specs.declared.value.Value.TheVariants as values
 use Rattle.tars_model.specs.declared.value.Value.TheVariants.{outs-Num, outs-Struct as outs-Members}
 use Rattle.idl_parse.specs.declared.span.Span.{Span}
 use Rattle.idl_parse.specs.declared.tree.type_tree.ScopedName.{ScopedName}
-use Rattle.idl_rules.specs.Items.{word}
-use Rattle.idl_rules.specs.Known.{Meaning, Scene, is_struct, is_enum, depth_of, size_of}
-use Rattle.idl_rules.specs.Types.{home_at, meaning_of, is_type}
+use Rattle.idl_scene.specs.Items.{word}
+use Rattle.idl_scene.specs.Known.{Meaning, Scene, is_struct, is_enum, depth_of, size_of}
+use Rattle.idl_scene.specs.Types.{home_at, meaning_of, is_type}
 use Rattle.idl_schema.specs.Agreement.{MeansIn, struct_meant, enum_meant, no_type_meant, Agrees, place_in}
 use Rattle.idl_schema.specs.SchemaOf.{or_any, struct_or_enum, module_of, struct_number, enum_number}
 

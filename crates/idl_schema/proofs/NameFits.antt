@@ -7,7 +7,7 @@ use Rattle.idl_parse.specs.TreeSpans.{NameIn}
 use Rattle.idl_parse.specs.declared.keyword.Keyword.{Keyword}
 use Rattle.idl_parse.specs.declared.keyword.Keyword.TheVariants as words
 use Rattle.idl_parse.specs.declared.span.Span.{Span}
-use Rattle.idl_rules.specs.Items.{word}
+use Rattle.idl_scene.specs.Items.{word}
 use Rattle.idl_rules.specs.Rules.{is_reserved}
 
 either_true : (b : Bool) → (b || true) ≡ true

@@ -12,9 +12,9 @@ use Rattle.tars_model.specs.declared.enum_desc.EnumDesc.{EnumDesc}
 use Rattle.tars_model.specs.declared.interface_desc.InterfaceDesc.{InterfaceDesc}
 use Rattle.tars_model.specs.declared.struct_desc.StructDesc.{StructDesc}
 use Rattle.idl_parse.specs.declared.span.Span.{Span}
+use Rattle.idl_scene.specs.Items.{word}
+use Rattle.idl_scene.specs.Known.{Meaning, a_struct, an_enum, no_type, Known, Scene, find}
 use Rattle.idl_rules.specs.Conditions.{known_with}
-use Rattle.idl_rules.specs.Items.{word}
-use Rattle.idl_rules.specs.Known.{Meaning, a_struct, an_enum, no_type, Known, Scene, find}
 use Rattle.idl_schema.specs.Agreement.{StructIs, EnumIs, MeansIn, Agrees}
 use Rattle.idl_schema.specs.SchemaOf.{struct_number, enum_number}
 use Rattle.idl_schema.proofs.Agreeing.{SameTypes, means_struct, means_enum, means_other, means_same}

@@ -3,9 +3,9 @@ use Rattle.std.proofs.Common.{◌≡◌, ℕ, Bool, true, false, not, List, [], 
 use Rattle.std.specs.List.{AllByRecursion}
 use Rattle.least_fault.specs.Conditions.{found_after}
 use Rattle.least_fault.proofs.Walks.{nothing_in}
-use Rattle.idl_rules.specs.Faults.{fault_if}
-use Rattle.idl_rules.specs.declared.check_fault.CheckWhy.{CheckWhy}
-use Rattle.idl_rules.specs.declared.check_fault.Fault.{Fault}
+use Rattle.idl_scene.specs.Faults.{fault_if}
+use Rattle.idl_scene.specs.declared.check_fault.CheckWhy.{CheckWhy}
+use Rattle.idl_scene.specs.declared.check_fault.Fault.{Fault}
 
 pub passed : (b : Bool) (file at : ℕ) (why : CheckWhy) → fault_if b file at why ≡ [] → b ≡ false
 passed true file at why e = cc

@@ -1,8 +1,8 @@
 -- What holds of words holds of them each once.
-use Rattle.std.proofs.Common.{◌≡◌, Bool, true, false, cond, ℕ, List, [], ◌∷◌, ◌++◌, fold, refl}
+use Rattle.std.proofs.Common.{Bool, true, false, cond, ℕ, List, [], ◌∷◌, ◌++◌, fold}
 use Rattle.std.specs.List.{AllByRecursion, list_any}
 use Rattle.std.specs.Str.{bytes_eq}
-use Rattle.idl_rules.specs.Known.{once_more, each_once}
+use Rattle.idl_scene.specs.Known.{once_more, each_once}
 use Rattle.idl_schema.proofs.Parts.{each_append}
 
 module _ (P : List ℕ → Type 0) where

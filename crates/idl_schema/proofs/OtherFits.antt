@@ -21,15 +21,15 @@ use Rattle.idl_parse.specs.declared.tree.decl.KeyTree.{KeyTree}
 use Rattle.idl_parse.specs.declared.tree.func.FuncTree.{FuncTree}
 use Rattle.idl_parse.specs.declared.tree.func.ParamTree.{ParamTree}
 use Rattle.idl_parse.specs.declared.tree.type_tree.TypeTree.{TypeTree, out-TypeTree}
-use Rattle.idl_rules.specs.Items.{declared, word}
-use Rattle.idl_rules.specs.Known.{Meaning, Scene, find, is_struct, is_enum, members_of}
-use Rattle.idl_rules.specs.Literals.{fits_literal, literal_start}
+use Rattle.idl_scene.specs.Items.{declared, word}
+use Rattle.idl_scene.specs.Known.{Meaning, Scene, find, is_struct, is_enum, members_of}
+use Rattle.idl_scene.specs.Literals.{fits_literal, literal_start}
+use Rattle.idl_scene.specs.Types.{is_type, types_in}
+use Rattle.idl_scene.specs.declared.check_fault.CheckWhy.TheVariants.{TwiceName, TooMany, BadDefault, UnknownName}
 use Rattle.idl_rules.specs.Parts.{NameList, name_list, param_list, func_types, returned_types, param_types}
 use Rattle.idl_rules.specs.Rules.{twice_declared, reserved_name, too_many, twice_in_list, reserved_in_list, too_many_in_list, bad_const, unknown_struct, unknown_member, unknown_members}
-use Rattle.idl_rules.specs.Types.{is_type, types_in}
-use Rattle.idl_rules.specs.declared.check_fault.CheckWhy.TheVariants.{TwiceName, TooMany, BadDefault, UnknownName}
 use Rattle.idl_schema.specs.Agreement.{MeansIn, struct_meant, enum_meant, no_type_meant, Agrees, place_in}
-use Rattle.idl_schema.specs.Faultless.{NoFault}
+use Rattle.idl_schema.specs.Faultless.{NoFault, AreBytes}
 use Rattle.idl_schema.specs.SchemaOf.{const_of, key_of, or_first, param_of, returned_type, func_of, interface_of, struct_number}
 use Rattle.idl_schema.proofs.ListFits.{free_name, free_names, names_apart, few_names, OtherWord}
 use Rattle.idl_schema.proofs.LiteralFits.{literal_spells}
@@ -98,12 +98,12 @@ module _ (s : Scene) (d : Declared) (agrees : Agrees (record { known = s.known; 
     const_types : AllByRecursion (Unfaulted s) (types_in c.typed.ty)
     const_types = types_unfaulted s (types_in c.typed.ty) nothing.unknown_type nothing.float nothing.bad_key nothing.deep_type nothing.unsigned_bytes
 
-    pub const_fits : IsName s.home → ConstFits d (const_of (place_in d s) c)
-    const_fits home = record {
+    pub const_fits : AreBytes s.text → IsName s.home → ConstFits d (const_of (place_in d s) c)
+    const_fits bytes home = record {
       name = is_new s d c.typed.name agrees.taken (passed _ s.file c.typed.name.start TwiceName (alone_nothing (twice_declared s) [] (decls.Const c ∷ []) nothing.twice_declared).0) home
           (free_name s c.typed.name inside.0.1 (alone_nothing (reserved_name s) [] (decls.Const c ∷ []) nothing.reserved_name).0);
       ty = type_fits s d agrees inside.0.0 nests const_types;
-      value = (literal_spells s d agrees None inside.0.0 c.value inside.1 short
+      value = (literal_spells s d agrees None inside.0.0 c.value inside.1 short bytes
           (holds (fits_literal s None (out-TypeTree c.typed.ty) c.value) s.file (literal_start c.value) BadDefault (alone_nothing (λ c. bad_const s [] c) [] (c ∷ []) nothing.bad_const).0)).is_literal;
       room = room_left s.room.consts (length d.consts) 1024 (passed _ s.file c.typed.name.start TooMany (alone_nothing (too_many s) [] (decls.Const c ∷ []) nothing.too_many).0) agrees.consts;
     }

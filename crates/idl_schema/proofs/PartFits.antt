@@ -1,7 +1,7 @@
 -- Parts of declarations in which no rule finds anything.
-use Rattle.std.proofs.Common.{◌≡◌, ◌≢◌, ◌<◌, ◌^◌, ℕ, ℤ, pos, negsuc, Bool, true, false, ◌&&◌, Option, Some, None, is_some, List, [], ◌∷◌, length, refl, sym, ap, ◌∙◌}
+use Rattle.std.proofs.Common.{◌≡◌, ◌≢◌, ◌<◌, ◌^◌, ℕ, ℤ, pos, negsuc, Bool, true, false, ◌&&◌, Option, Some, None, is_some, List, [], ◌∷◌, length, refl, sym, ap, ◌∙◌, arith}
 use Rattle.std.proofs.lemmas.List.Elements.{All-from_recursion}
-use Rattle.std.proofs.lemmas.Bool.Decides.{Decides-int_eq}
+use Rattle.std.proofs.lemmas.Bool.Decides.{Decides-int_eq, nat_tests}
 use Rattle.std.specs.List.{AllByRecursion}
 use Rattle.std.specs.Ordering.{int_eq}
 use Rattle.least_fault.specs.Conditions.{found_after}
@@ -15,14 +15,15 @@ use Rattle.idl_parse.specs.declared.span.Span.{Span}
 use Rattle.idl_parse.specs.declared.tree.literal.Literal.{Literal}
 use Rattle.idl_parse.specs.declared.tree.member.MemberTree.{MemberTree}
 use Rattle.idl_parse.specs.declared.tree.type_tree.TypeTree.{TypeTree, out-TypeTree}
+use Rattle.idl_scene.specs.Items.{word}
+use Rattle.idl_scene.specs.Known.{Scene, Known, find}
+use Rattle.idl_scene.specs.Literals.{fits_literal, literal_start}
+use Rattle.idl_scene.specs.Types.{unknown_type, float, bad_key, deep_type, unsigned_bytes, types_in}
+use Rattle.idl_scene.specs.declared.check_fault.CheckWhy.TheVariants.{TwiceTag, BadDefault}
 use Rattle.idl_rules.specs.Conditions.{at_layer, alone}
-use Rattle.idl_rules.specs.Items.{word}
-use Rattle.idl_rules.specs.Known.{Scene, Known, find}
-use Rattle.idl_rules.specs.Literals.{fits_literal, literal_start}
 use Rattle.idl_rules.specs.Rules.{bad_written, twice_tag, tag_of}
-use Rattle.idl_rules.specs.Types.{unknown_type, float, bad_key, deep_type, unsigned_bytes, types_in}
-use Rattle.idl_rules.specs.declared.check_fault.CheckWhy.TheVariants.{TwiceTag, BadDefault}
 use Rattle.idl_schema.specs.Agreement.{Agrees, place_in}
+use Rattle.idl_schema.specs.Faultless.{AreBytes}
 use Rattle.idl_schema.specs.SchemaOf.{default_value, member_of, as_tag}
 use Rattle.idl_schema.proofs.ListFits.{none_any}
 use Rattle.idl_schema.proofs.LiteralFits.{literal_spells}
@@ -68,11 +69,15 @@ types_unfaulted s ts a b c d e =
 -- ---- members
 
 module _ (s : Scene) (d : Declared) (agrees : Agrees (record { known = s.known; room = s.room }) d) (short : length s.text < 2 ^ 32) where
-  default_fits : {t : TypeTree} → TypeIn s.text t → (o : Option Literal) → IfThere (LiteralIn s.text) o → bad_written s (out-TypeTree t) o ≡ [] → IsDefault d (written s d t) (default_value (place_in d s) (written s d t) o)
-  default_fits inside None at e = absent refl
-  default_fits {t} inside (Some l) at e =
-      let spells = literal_spells s d agrees (Some 255) inside l at short (holds (fits_literal s (Some 255) (out-TypeTree t) l) s.file (literal_start l) BadDefault e) in
+  default_fits : AreBytes s.text → {t : TypeTree} → TypeIn s.text t → (o : Option Literal) → IfThere (LiteralIn s.text) o → bad_written s (out-TypeTree t) o ≡ [] → IsDefault d (written s d t) (default_value (place_in d s) (written s d t) o)
+  default_fits bytes inside None at e = absent refl
+  default_fits bytes {t} inside (Some l) at e =
+      let spells = literal_spells s d agrees (Some 255) inside l at short bytes (holds (fits_literal s (Some 255) (out-TypeTree t) l) s.file (literal_start l) BadDefault e) in
       literal spells.is_literal spells.few
+
+  tag_fits : (n : ℤ) → is_unsigned 8 n ≡ true → as_tag n < 256
+  tag_fits (pos n) is = grind (arith, nat_tests)
+  tag_fits (negsuc n) is = absurd cc
 
   -- what is known of a member
   pub record GoodMember (m : MemberTree) : Type 0 where
@@ -83,11 +88,12 @@ module _ (s : Scene) (d : Declared) (agrees : Agrees (record { known = s.known; 
     pub default : bad_written s (out-TypeTree m.typed.ty) m.default ≡ []
     pub tag : is_unsigned 8 (tag_of s m) ≡ true
 
-  pub member_fits : (m : MemberTree) → GoodMember m → MemberFits d (member_of (place_in d s) m)
-  member_fits m good = record {
+  pub member_fits : AreBytes s.text → (m : MemberTree) → GoodMember m → MemberFits d (member_of (place_in d s) m)
+  member_fits bytes m good = record {
+    tag = tag_fits (tag_of s m) good.tag;
     name = good.name;
     ty = type_fits s d agrees good.inside.typed.0 good.nested good.types;
-    default = default_fits good.inside.typed.0 m.default good.inside.default good.default;
+    default = default_fits bytes good.inside.typed.0 m.default good.inside.default good.default;
   }
 
   pub sound_type : (m : MemberTree) → GoodMember m → SoundType s d agrees m

@@ -5,7 +5,7 @@ use Rattle.std.specs.List.{AllByRecursion, flat_map}
 use Rattle.least_fault.specs.Conditions.{Condition, found_after}
 use Rattle.least_fault.proofs.Walks.{nothing_in}
 use Rattle.tars_model.specs.Names.{AllDiffer}
-use Rattle.idl_rules.specs.declared.check_fault.Fault.{Fault}
+use Rattle.idl_scene.specs.declared.check_fault.Fault.{Fault}
 
 pub each_weaker : {X : Type 0} (P Q : X → Type 0) → ((x : X) → P x → Q x) → (xs : List X) → AllByRecursion P xs → AllByRecursion Q xs
 each_weaker P Q weaker [] each = tt

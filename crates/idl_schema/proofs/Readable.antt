@@ -18,13 +18,13 @@ use Rattle.idl_parse.specs.declared.tree.type_tree.BasicType.{BasicType}
 use Rattle.idl_parse.specs.declared.tree.type_tree.BasicType.TheVariants as basics
 use Rattle.idl_parse.specs.declared.tree.type_tree.TypeTree.{out-TypeTree}
 use Rattle.idl_parse.specs.declared.tree.type_tree.TypeTree.TheOpen as layer
+use Rattle.idl_scene.specs.Items.{declared, item}
+use Rattle.idl_scene.specs.Known.{Scene, is_enum}
+use Rattle.idl_scene.specs.Literals.{is_number_of_word, fits_number, fits_literal, literal_start}
+use Rattle.idl_scene.specs.Types.{TypeLayer, meaning_of}
+use Rattle.idl_scene.specs.declared.check_fault.CheckWhy.TheVariants.{TagRange, BadDefault}
 use Rattle.idl_rules.specs.Conditions.{scene_at}
-use Rattle.idl_rules.specs.Items.{declared, item}
-use Rattle.idl_rules.specs.Known.{Scene, is_enum}
-use Rattle.idl_rules.specs.Literals.{is_number_of_word, fits_number, fits_literal, literal_start}
 use Rattle.idl_rules.specs.Rules.{bad_written, bad_const, tag_range, tag_of}
-use Rattle.idl_rules.specs.Types.{TypeLayer, meaning_of}
-use Rattle.idl_rules.specs.declared.check_fault.CheckWhy.TheVariants.{TagRange, BadDefault}
 use Rattle.tars_model.specs.Declarations.{Declared}
 use Rattle.idl_schema.specs.Faultless.{CanAdd}
 use Rattle.idl_schema.specs.Reading.{LiteralLong, MemberReads}

@@ -24,11 +24,11 @@ use Rattle.idl_parse.specs.declared.tree.literal.LiteralWord.TheVariants as word
 use Rattle.idl_parse.specs.declared.tree.member.MemberTree.{MemberTree}
 use Rattle.idl_parse.specs.declared.tree.type_tree.TypeTree.{TypeTree, out-TypeTree}
 use Rattle.idl_parse.specs.declared.tree.type_tree.TypeTree.TheVariants.{outs-Basic, outs-Vector, outs-Map, outs-Named}
-use Rattle.idl_rules.specs.Known.{Scene}
-use Rattle.idl_rules.specs.Rules as rule
-use Rattle.idl_rules.specs.Rules.{default_size, type_size, struct_size, struct_depth}
-use Rattle.idl_rules.specs.Types as check
-use Rattle.idl_rules.specs.Types.{meaning_of, one_deeper}
+use Rattle.idl_scene.specs.Known.{Scene}
+use Rattle.idl_scene.specs.Structs as sizes
+use Rattle.idl_scene.specs.Structs.{default_size, type_size, struct_size, struct_depth}
+use Rattle.idl_scene.specs.Types as check
+use Rattle.idl_scene.specs.Types.{meaning_of, one_deeper}
 use Rattle.idl_schema.specs.Agreement.{Agrees, place_in}
 use Rattle.idl_schema.specs.SchemaOf.{default_value, literal_value, word_value, member_of}
 use Rattle.idl_schema.proofs.Meant.{name_means, meant_size, size_at}
@@ -76,10 +76,10 @@ vector_size false = no_list_size
 
 -- ---- capped sizes
 
-capped_more : (a b : ℕ) → rule.capped (rule.capped a + b) ≡ rule.capped (a + b)
+capped_more : (a b : ℕ) → sizes.capped (sizes.capped a + b) ≡ sizes.capped (a + b)
 capped_more a b = grind (arith, nat_tests)
 
-pub small_size : (n : ℕ) → nat_lt 1024 (rule.capped n) ≡ false → (n ≤ 1024) × (rule.capped n ≡ n)
+pub small_size : (n : ℕ) → nat_lt 1024 (sizes.capped n) ≡ false → (n ≤ 1024) × (sizes.capped n ≡ n)
 small_size n e = (grind (arith, nat_tests), grind (arith, nat_tests))
 
 pub small_depth : (n : ℕ) → nat_lt 32 (capped n) ≡ false → (n ≤ 32) × (capped n ≡ n)
@@ -114,20 +114,20 @@ module _ (s : Scene) (d : Declared) (agrees : Agrees (record { known = s.known; 
   members ms = map (member_of (place_in d s)) ms
 
   size_from : (so_far : ℕ) (ms : List MemberTree) → AllByRecursion SoundType ms
-      → fold (λ size (m : MemberTree). rule.capped (size + default_size s (out-TypeTree m.typed.ty) m.default)) (rule.capped so_far) ms ≡ rule.capped (so_far + add_up (map (λ (m : Member). value_size m.default) (members ms)))
-  size_from so_far [] sound = let none : so_far + 0 ≡ so_far = omega arith in ap rule.capped (sym none)
+      → fold (λ size (m : MemberTree). sizes.capped (size + default_size s (out-TypeTree m.typed.ty) m.default)) (sizes.capped so_far) ms ≡ sizes.capped (so_far + add_up (map (λ (m : Member). value_size m.default) (members ms)))
+  size_from so_far [] sound = let none : so_far + 0 ≡ so_far = omega arith in ap sizes.capped (sym none)
   size_from so_far (m ∷ ms) sound =
       let here = default_is sound.0.0 (itself s d agrees sound.0.0 sound.0.1) m.default in
       let n : ℕ = value_size (default_value (place_in d s) (written s d m.typed.ty) m.default) in
       let rest : ℕ = add_up (map (λ (m : Member). value_size m.default) (members ms)) in
       let regroup : (so_far + n) + rest ≡ so_far + (n + rest) = omega arith in
-      ap (λ k. fold (λ size (m : MemberTree). rule.capped (size + default_size s (out-TypeTree m.typed.ty) m.default)) k ms) (ap (λ k. rule.capped (rule.capped so_far + k)) (sym here) ∙ capped_more so_far n)
-      ∙ size_from (so_far + n) ms sound.1 ∙ ap rule.capped regroup
+      ap (λ k. fold (λ size (m : MemberTree). sizes.capped (size + default_size s (out-TypeTree m.typed.ty) m.default)) k ms) (ap (λ k. sizes.capped (sizes.capped so_far + k)) (sym here) ∙ capped_more so_far n)
+      ∙ size_from (so_far + n) ms sound.1 ∙ ap sizes.capped regroup
 
-  pub size_is : (ms : List MemberTree) → AllByRecursion SoundType ms → struct_size s ms ≡ rule.capped (suc (add_up (map (λ (m : Member). value_size m.default) (members ms))))
+  pub size_is : (ms : List MemberTree) → AllByRecursion SoundType ms → struct_size s ms ≡ sizes.capped (suc (add_up (map (λ (m : Member). value_size m.default) (members ms))))
   size_is ms sound =
       let one : 1 + add_up (map (λ (m : Member). value_size m.default) (members ms)) ≡ suc (add_up (map (λ (m : Member). value_size m.default) (members ms))) = omega arith in
-      size_from 1 ms sound ∙ ap rule.capped one
+      size_from 1 ms sound ∙ ap sizes.capped one
 
   greater_both : (a b c : ℕ) → greater (greater a b) c ≡ greater a (greater b c)
   greater_both a b c = grind (arith, nat_tests)

@@ -19,13 +19,14 @@ use Rattle.idl_parse.specs.declared.tree.decl.DeclTree.TheVariants as decls
 use Rattle.idl_parse.specs.declared.tree.decl.StructTree.{StructTree}
 use Rattle.idl_parse.specs.declared.tree.member.MemberTree.{MemberTree}
 use Rattle.idl_parse.specs.declared.tree.type_tree.TypeTree.{out-TypeTree}
-use Rattle.idl_rules.specs.Items.{declared, word}
-use Rattle.idl_rules.specs.Known.{Scene}
+use Rattle.idl_scene.specs.Items.{declared, word}
+use Rattle.idl_scene.specs.Known.{Scene}
+use Rattle.idl_scene.specs.Structs.{struct_depth, struct_size}
+use Rattle.idl_scene.specs.declared.check_fault.CheckWhy.TheVariants.{TwiceName, TooDeep, TooMany, TagRange}
 use Rattle.idl_rules.specs.Parts.{NameList, name_list, member_types}
-use Rattle.idl_rules.specs.Rules.{twice_declared, reserved_name, deep_struct, too_many, large_default, twice_in_list, reserved_in_list, bad_written, tag_range, tag_of, struct_depth, struct_size}
-use Rattle.idl_rules.specs.declared.check_fault.CheckWhy.TheVariants.{TwiceName, TooDeep, TooMany, TagRange}
+use Rattle.idl_rules.specs.Rules.{twice_declared, reserved_name, deep_struct, too_many, large_default, twice_in_list, reserved_in_list, bad_written, tag_range, tag_of}
 use Rattle.idl_schema.specs.Agreement.{Agrees, place_in}
-use Rattle.idl_schema.specs.Faultless.{NoFault}
+use Rattle.idl_schema.specs.Faultless.{NoFault, AreBytes}
 use Rattle.idl_schema.specs.SchemaOf.{member_of, in_tag_order, struct_of}
 use Rattle.idl_schema.proofs.ListFits.{free_name, free_names, names_apart, OtherWord}
 use Rattle.idl_schema.proofs.Nothing.{passed, holds, alone_nothing}
@@ -103,8 +104,8 @@ module _ (s : Scene) (d : Declared) (agrees : Agrees (record { known = s.known; 
         (names_apart s (name_list true None names) names
         (alone_nothing (λ (list : NameList). found_after (twice_in_list s list) [] list.names) [] (name_list true None names ∷ []) nothing.twice_in_list).0)))
 
-    fit_members : AllByRecursion (MemberFits d) written_members
-    fit_members = each_mapped (MemberFits d) (member_of (place_in d s)) t.members (each_weaker Good (λ m. MemberFits d (member_of (place_in d s) m)) (member_fits s d agrees short) t.members good)
+    fit_members : AreBytes s.text → AllByRecursion (MemberFits d) written_members
+    fit_members bytes = each_mapped (MemberFits d) (member_of (place_in d s)) t.members (each_weaker Good (λ m. MemberFits d (member_of (place_in d s) m)) (member_fits s d agrees short bytes) t.members good)
 
     sound : AllByRecursion (SoundType s d agrees) t.members
     sound = each_weaker Good (SoundType s d agrees) (sound_type s d agrees short) t.members good
@@ -128,12 +129,12 @@ module _ (s : Scene) (d : Declared) (agrees : Agrees (record { known = s.known; 
         let same = sorted_sum (λ (m : Member). value_size m.default) written_members in
         (subst (λ (n : ℕ). suc n ≤ 1024) (sym same) small.0, is ∙ small.1 ∙ ap (λ (n : ℕ). suc n) (sym same))
 
-    pub struct_fits : IsName s.home → StructFits d (struct_of (place_in d s) t)
-    struct_fits home = record {
+    pub struct_fits : AreBytes s.text → IsName s.home → StructFits d (struct_of (place_in d s) t)
+    struct_fits bytes home = record {
       name = is_new s d t.name agrees.taken (passed _ s.file t.name.start TwiceName (alone_nothing (twice_declared s) [] (decls.Struct t ∷ []) nothing.twice_declared).0) home
           (free_name s t.name inside.0 (alone_nothing (reserved_name s) [] (decls.Struct t ∷ []) nothing.reserved_name).0);
       rising = rising;
-      members = All-from_recursion (MemberFits d) (in_tag_order written_members) (sorted_each (MemberFits d) written_members fit_members);
+      members = All-from_recursion (MemberFits d) (in_tag_order written_members) (sorted_each (MemberFits d) written_members (fit_members bytes));
       names_differ = all_differ (map (λ (m : Member). m.name) (in_tag_order written_members)) (apart_mapped Others (λ (m : Member). m.name) (in_tag_order written_members) apart);
       bounded = struct_deep.0;
       small = struct_small.0;

@@ -22,11 +22,11 @@ use Rattle.idl_parse.specs.declared.tree.type_tree.TypeTree.{TypeTree, out-TypeT
 use Rattle.idl_parse.specs.declared.tree.type_tree.TypeTree.TheOpen as layer
 use Rattle.idl_parse.specs.declared.tree.type_tree.TypeTree.TheVariants as types
 use Rattle.idl_parse.specs.declared.tree.type_tree.TypeTree.TheVariants.{outs-Basic, outs-Vector, outs-Map, outs-Named}
-use Rattle.idl_rules.specs.Known.{Scene, depth_of}
-use Rattle.idl_rules.specs.Types as check
-use Rattle.idl_rules.specs.Types.{TypeLayer, is_float, is_unsigned_byte, meaning_of, is_type, first_token, first_of_name, unknown_type, float, bad_key, deep_type, unsigned_bytes, types_in, one_deeper}
-use Rattle.idl_rules.specs.declared.check_fault.CheckWhy.TheVariants.{UnknownName, BadKey, TooDeep, LeftOut}
-use Rattle.idl_rules.proofs.TypeLaws.{types_basic, types_named, types_vector, types_map}
+use Rattle.idl_scene.specs.Known.{Scene, depth_of}
+use Rattle.idl_scene.specs.Types as check
+use Rattle.idl_scene.specs.Types.{TypeLayer, is_float, is_unsigned_byte, meaning_of, is_type, first_token, first_of_name, unknown_type, float, bad_key, deep_type, unsigned_bytes, types_in, one_deeper}
+use Rattle.idl_scene.specs.declared.check_fault.CheckWhy.TheVariants.{UnknownName, BadKey, TooDeep, LeftOut}
+use Rattle.idl_scene.proofs.TypeLaws.{types_basic, types_named, types_vector, types_map}
 use Rattle.idl_schema.specs.Agreement.{Agrees, place_in}
 use Rattle.idl_schema.specs.SchemaOf.{basic_type, named_type, resolved_layer, resolved}
 use Rattle.idl_schema.proofs.Meant.{name_means, meant_is_type, meant_is_key, meant_depth, meant_nesting, meant_refers, depth_at, nesting_at}

@@ -2,9 +2,9 @@
 use Rattle.std.proofs.Common.{◌≡◌, List, [], ◌∷◌, ◌++◌, refl, ap, ◌∙◌}
 use Rattle.least_fault.specs.Conditions.{Condition, found_after, found_by, together}
 use Rattle.least_fault.proofs.Walks.{nothing_in, nothing_at}
+use Rattle.idl_scene.specs.Items.{Item}
+use Rattle.idl_scene.specs.declared.check_fault.Fault.{Fault}
 use Rattle.idl_rules.specs.Conditions.{conditions, scene_at, state_after}
-use Rattle.idl_rules.specs.Items.{Item}
-use Rattle.idl_rules.specs.declared.check_fault.Fault.{Fault}
 use Rattle.idl_schema.specs.Faultless.{NoFault}
 
 together_nothing : (cs : List (Condition Item Fault)) (before after : List Item) (i : Item) → found_by cs (before ++ i ∷ after) ≡ [] → together cs before i ≡ []

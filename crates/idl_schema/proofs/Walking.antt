@@ -14,8 +14,8 @@ use Rattle.idl_parse.specs.declared.tree.module.Entry.{Entry}
 use Rattle.idl_parse.specs.declared.tree.module.Entry.TheVariants.{Include, Module}
 use Rattle.idl_parse.specs.declared.tree.module.ModuleTree.{ModuleTree}
 use Rattle.least_fault.specs.Conditions.{found_by}
+use Rattle.idl_scene.specs.Items.{declared, Item, item, entry_items, file_items, items_from, items_of, word}
 use Rattle.idl_rules.specs.Conditions.{conditions, at_first, state_with, state_after, faults_of}
-use Rattle.idl_rules.specs.Items.{declared, Item, item, entry_items, file_items, items_from, items_of, word}
 use Rattle.idl_schema.specs.Faultless.{FaultlessFrom, CanTake, Stands, CanAdd, CanAddAll, with_decls, with_entry, with_entries, CanAddEntries, with_file, CanAddFiles}
 use Rattle.idl_schema.specs.SchemaOf.{place_of, with_decl, with_item, schema_of}
 use Rattle.idl_schema.specs.Agreement.{Agrees, no_type_meant}
@@ -168,11 +168,11 @@ nothing_agrees = record {
   interfaces = refl;
 }
 
-pub can_add_files : (files : List File) → faults_of files ≡ [] → length (schema_of files).keys < 2 ^ 32 → CanAddFiles nothing_declared files
-can_add_files files none few = record {
+pub can_add_files : (files : List File) → faults_of files ≡ [] → CanAddFiles nothing_declared files
+can_add_files files none = record {
   number = 0;
   earlier = [];
-  can = record { state = at_first; agrees = nothing_agrees; faultless = faultless_from [] (items_of files) none; few_keys = few };
+  can = record { state = at_first; agrees = nothing_agrees; faultless = faultless_from [] (items_of files) none };
 }
 
 pub all_files : (files : List File) → fold with_file nothing_declared files ≡ schema_of files

@@ -7,9 +7,9 @@ use Rattle.tars_model.specs.Types.{depths_of}
 use Rattle.tars_model.specs.Values.{is_signed}
 use Rattle.tars_model.specs.declared.enum_desc.Item.{Item as Enumerator}
 use Rattle.tars_model.specs.declared.member.Member.{Member}
+use Rattle.idl_scene.specs.Known.{Meaning, a_struct, an_enum, Scene, each_once, find}
+use Rattle.idl_scene.specs.Types.{is_type}
 use Rattle.idl_rules.specs.Conditions.{State}
-use Rattle.idl_rules.specs.Known.{Meaning, a_struct, an_enum, Scene, each_once, find}
-use Rattle.idl_rules.specs.Types.{is_type}
 use Rattle.idl_schema.specs.SchemaOf.{Place, struct_number, enum_number}
 
 -- the struct of this number has this depth, this many values in its default, and members of these names

@@ -1,13 +1,13 @@
 -- For the proofs: what no rule refuses.
-use Rattle.std.specs.Prelude.{◌≡◌, ◌<◌, ◌^◌, ℕ, List, [], ◌∷◌, ◌++◌, map, fold, length}
-use Rattle.std.specs.List.{AllByRecursion, flat_map}
+use Rattle.std.specs.Prelude.{◌≡◌, ◌<◌, ◌^◌, ◌+◌, ℕ, List, [], ◌∷◌, ◌++◌, map, fold, length}
+use Rattle.std.specs.List.{All, AllByRecursion, flat_map}
 use Rattle.least_fault.specs.Conditions.{found_after}
+use Rattle.idl_scene.specs.Items.{Item, What, item, declared, entry_items, items_from, word}
+use Rattle.idl_scene.specs.Known.{Scene}
+use Rattle.idl_scene.specs.Types as types
 use Rattle.idl_rules.specs.Conditions.{State, Rule, alone, at_layer, each_name, scene_at, state_with}
-use Rattle.idl_rules.specs.Items.{Item, What, item, declared, entry_items, items_from, word}
-use Rattle.idl_rules.specs.Known.{Scene}
 use Rattle.idl_rules.specs.Parts.{blocks_of, declarations_of, types_of, name_lists_of, members_of, enumerators_of, consts_of, keys_of}
 use Rattle.idl_rules.specs.Rules as rule
-use Rattle.idl_rules.specs.Types as types
 use Rattle.tars_model.specs.Declarations.{Declared}
 use Rattle.tars_model.specs.Names.{IsName}
 use Rattle.idl_parse.specs.Files.{File}
@@ -17,7 +17,7 @@ use Rattle.idl_parse.specs.declared.tree.module.Entry.{Entry}
 use Rattle.idl_parse.specs.declared.tree.module.Entry.TheVariants.{Include, Module}
 use Rattle.idl_parse.specs.declared.tree.decl.DeclTree.{DeclTree}
 use Rattle.idl_schema.specs.Agreement.{Agrees}
-use Rattle.idl_schema.specs.SchemaOf.{place_of, with_decl, with_item}
+use Rattle.idl_schema.specs.SchemaOf.{place_of, with_decl}
 
 -- a rule finds nothing in parts
 abbrev pub Finds : {Part : Type 0} → Rule Part → Scene → List Part → Type 0
@@ -57,7 +57,9 @@ pub record CanTake (d : Declared) (items : List Item) : Type 0 where
   pub state : State
   pub agrees : Agrees state d
   pub faultless : FaultlessFrom state items
-  pub few_keys : length (fold with_item d items).keys < 2 ^ 32
+
+abbrev pub AreBytes : List ℕ → Type 0
+AreBytes text = All (λ b. b < 256) text
 
 -- a declaration as the grammar lets it stand in a module of that name
 pub record Stands (text home : List ℕ) (decl : DeclTree) : Type 0 where
@@ -65,6 +67,15 @@ pub record Stands (text home : List ℕ) (decl : DeclTree) : Type 0 where
   pub inside : DeclIn text decl
   pub nests : DeclNests 16 decl
   pub home_is : IsName home
+
+-- how many declarations an entry has, and how many entries have together
+abbrev pub entry_decls : Entry → ℕ
+entry_decls (Include span) = 0
+entry_decls (Module m) = length m.decls
+
+abbrev pub decl_count : List Entry → ℕ
+decl_count [] = 0
+decl_count (e ∷ entries) = entry_decls e + decl_count entries
 
 -- a declaration that may be added to what is declared so far
 pub record CanAdd (d : Declared) (text home : List ℕ) (decl : DeclTree) : Type 0 where

@@ -8,7 +8,7 @@ use Rattle.idl_parse.specs.declared.tree.literal.Literal.{Literal}
 use Rattle.idl_parse.specs.declared.tree.literal.Literal.TheVariants as literals
 use Rattle.idl_parse.specs.declared.tree.literal.LiteralWord.TheVariants as words
 use Rattle.idl_parse.specs.declared.tree.member.MemberTree.{MemberTree}
-use Rattle.idl_rules.specs.Items.{word}
+use Rattle.idl_scene.specs.Items.{word}
 
 -- a number of 64 bits
 abbrev pub IsLong : List ℕ → Span → Type 0

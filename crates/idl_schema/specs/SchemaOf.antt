@@ -44,8 +44,8 @@ use Rattle.idl_parse.specs.declared.tree.type_tree.BasicType.TheVariants as basi
 use Rattle.idl_parse.specs.declared.tree.type_tree.ScopedName.{ScopedName}
 use Rattle.idl_parse.specs.declared.tree.type_tree.TypeTree.{TypeTree, fold-TypeTree}
 use Rattle.idl_parse.specs.declared.tree.type_tree.TypeTree.TheOpen as layer
-use Rattle.idl_rules.specs.Items.{Item, What, declared, items_of, word}
-use Rattle.idl_rules.specs.Literals.{number_of_item}
+use Rattle.idl_scene.specs.Items.{Item, What, declared, items_of, word}
+use Rattle.idl_scene.specs.Literals.{number_of_item}
 
 -- what is declared so far, the text of the file, and the name of the module
 pub record Place : Type 0 where

@@ -3,7 +3,7 @@
 ghost use Rattle.std.specs.Prelude.{◌≡◌, map, IfOk};
 ghost use Rattle.std.specs.List.{All};
 ghost use Rattle.idl_parse.specs.TreeSpans.{NameIn, TypedIn, LiteralIn, FuncIn};
-ghost use Rattle.idl_rules.specs.Items.{word};
+ghost use Rattle.idl_scene.specs.Items.{word};
 ghost use Rattle.idl_schema.specs.Reading.{LiteralLong, MemberReads};
 ghost use Rattle.idl_schema.specs.SchemaOf as spec;
 

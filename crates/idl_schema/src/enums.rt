@@ -5,7 +5,7 @@ ghost use Rattle.std.specs.List.{All, AllByRecursion};
 ghost use Rattle.tars_model.specs.Values.{is_signed};
 ghost use Rattle.tars_model.specs.declared.enum_desc.Item.{Item as Made};
 ghost use Rattle.idl_parse.specs.TreeSpans.{IfThere, NameIn, NumberIn, ItemIn};
-ghost use Rattle.idl_rules.specs.Literals.{number_at};
+ghost use Rattle.idl_scene.specs.Literals.{number_at};
 ghost use Rattle.idl_schema.specs.SchemaOf as spec;
 
 use crate::literals::number;

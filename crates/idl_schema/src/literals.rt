@@ -6,7 +6,7 @@ ghost use Rattle.tars_model.specs.declared.ty.Ty.{out-Ty};
 ghost use Rattle.idl_parse.specs.Meanings.{whole_number};
 ghost use Rattle.idl_parse.specs.TreeSpans.{IfThere, NumberIn, StandsAt, LiteralIn, kind_of};
 ghost use Rattle.idl_parse.specs.declared.tree.literal.Literal.TheVariants as literals;
-ghost use Rattle.idl_rules.specs.Items.{word};
+ghost use Rattle.idl_scene.specs.Items.{word};
 ghost use Rattle.idl_schema.specs.Reading.{IsLong, LiteralLong};
 ghost use Rattle.idl_schema.specs.SchemaOf as spec;
 
@@ -83,7 +83,7 @@ pub(crate) fn literal_value(
     match literal {
         Literal::Word { word, span } => word_value(alloc, place.text, word, span),
         Literal::Named(name) => {
-            let items = items_of_type(place.schema, ty);
+            let items = items_of_type(&place.building.schema, ty);
             Ok(Value::Num(i64::from(number_named(place.word(name.name), items))))
         }
     }
@@ -102,6 +102,6 @@ pub(crate) fn default_value(
 {
     match default {
         Some(literal) => literal_value(alloc, place, ty, literal),
-        None => default_of(alloc, place.schema, ty),
+        None => default_of(alloc, &place.building.schema, ty),
     }
 }

@@ -7,7 +7,7 @@ ghost use Rattle.tars_model.specs.Values.{is_unsigned};
 ghost use Rattle.tars_model.specs.declared.member.Member.{Member as Made};
 ghost use Rattle.idl_parse.specs.Meanings.{whole_number};
 ghost use Rattle.idl_parse.specs.TreeSpans.{NumberIn};
-ghost use Rattle.idl_rules.specs.Items.{word};
+ghost use Rattle.idl_scene.specs.Items.{word};
 ghost use Rattle.idl_schema.specs.Reading.{MemberReads};
 ghost use Rattle.idl_schema.specs.SchemaOf as spec;
 

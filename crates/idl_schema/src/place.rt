@@ -2,18 +2,19 @@
 
 ghost use Rattle.std.specs.Prelude.{◌≡◌};
 ghost use Rattle.idl_parse.specs.TreeSpans.{IfThere, NameIn, ScopedIn};
-ghost use Rattle.idl_rules.specs.Items.{word};
+ghost use Rattle.idl_scene.specs.Items.{word};
 ghost use Rattle.idl_schema.specs.SchemaOf.{struct_number, enum_number, type_named, module_of, named_type};
 
+use crate::building::Building;
 use idl_parse::Span;
 use idl_parse::tree::ScopedName;
 use std::marker::Model;
-use tars_model::{Schema, Ty};
+use tars_model::Ty;
 
 /// What is declared so far, the text of the file, and the name of the module.
 #[derive(Drop)]
 pub(crate) struct Place<'s, 'a> {
-    pub schema: &'s Schema,
+    pub building: &'s Building<'a>,
     pub text: &'a [u8],
     pub home: &'a [u8],
 }
@@ -23,15 +24,16 @@ impl<'s, 'a> Model for Place<'s, 'a> {
     ghost use Rattle.std.specs.Coded.{codes};
     ghost use Rattle.tars_model.specs.contracts.ty.Ty as ty;
     ghost use Rattle.tars_model.specs.contracts.value.Value as value;
+    ghost use Rattle.idl_schema.specs.Naming.{IsNamed};
     ghost use Rattle.idl_schema.specs.SchemaOf.{Place as Seen};
 
     ghost Value = { Seen };
 
     ghost coded = { Prim.hlevel (codes, ty.the_row.coded, value.the_row.coded) };
 
-    ghost view = { λ p. record { so_far = p.schema.now; text = p.text.now; home = p.home.now } };
+    ghost view = { λ p. record { so_far = p.building.now.schema; text = p.text.now; home = p.home.now } };
 
-    ghost invariant = { λ p. (length p.schema.now.structs ≤ 1024) × (length p.schema.now.enums ≤ 1024) };
+    ghost invariant = { λ p. (length p.building.now.schema.structs ≤ 1024) × (length p.building.now.schema.enums ≤ 1024) × IsNamed p.building.now };
 }
 
 impl<'s, 'a> Place<'s, 'a> {
@@ -44,31 +46,23 @@ impl<'s, 'a> Place<'s, 'a> {
     }
 
     /// The number of the struct of that module and name.
-    pub fn struct_number(&self, home: &[u8], name: &[u8]) -> Option<u32>
+    pub fn struct_number(&self, home: &'a [u8], name: &'a [u8]) -> Option<u32>
         ensures { result ≡ struct_number self.now.so_far home.now name.now }
     {
-        let mut number = 0;
-        for s in self.schema.structs() {
-            if home == s.module.as_slice() && name == s.name.as_slice() {
-                return Some(number);
-            }
-            number += 1;
+        match self.building.structs.number(home, name) {
+            Some(number) => Some(number as u32),
+            None => None,
         }
-        None
     }
 
     /// The number of the enum of that module and name.
-    fn enum_number(&self, home: &[u8], name: &[u8]) -> Option<u32>
+    fn enum_number(&self, home: &'a [u8], name: &'a [u8]) -> Option<u32>
         ensures { result ≡ enum_number self.now.so_far home.now name.now }
     {
-        let mut number = 0;
-        for e in self.schema.enums() {
-            if home == e.module.as_slice() && name == e.name.as_slice() {
-                return Some(number);
-            }
-            number += 1;
+        match self.building.enums.number(home, name) {
+            Some(number) => Some(number as u32),
+            None => None,
         }
-        None
     }
 
     /// The module of a type's name: its own where none is written.

@@ -4,7 +4,7 @@ use Rattle.std.specs.List.{All}
 use Rattle.tars_model.specs.Declarations.{Declared, nothing_declared, with_struct, with_enum, with_const, with_key, with_interface, members_at}
 use Rattle.tars_model.specs.Names.{IsName, AllDiffer}
 use Rattle.tars_model.specs.Types.{TyLayer, IsType, nesting, type_depth, deepest, depths_of}
-use Rattle.tars_model.specs.Values.{fits, default_of}
+use Rattle.tars_model.specs.Values.{is_signed, fits, default_of}
 use Rattle.tars_model.specs.Members.{HaveRisingTags}
 use Rattle.tars_model.specs.declared.const_desc.ConstDesc.{ConstDesc}
 use Rattle.tars_model.specs.declared.enum_desc.EnumDesc.{EnumDesc}
@@ -49,14 +49,19 @@ is_single (ty.Vector of) = false
 is_single (ty.Map key to) = false
 is_single t = true
 
+-- the bytes of a text; another value has none
+abbrev pub text_bytes : value.Value-F Value Pair → List ℕ
+text_bytes (value.Text bytes) = bytes
+text_bytes _ = []
+
 -- a number, bool or text that was written as a literal
 pub record IsLiteral (d : Declared) (t : Ty) (v : Value) : Type 0 where
   pub single : is_single (out-Ty t) ≡ true
   pub is_value : fits d t v ≡ true
+  pub bytes : All (λ b. b < 256) (text_bytes (out-Value v))
 
 abbrev pub text_length : value.Value-F Value Pair → ℕ
-text_length (value.Text bytes) = length bytes
-text_length _ = 0
+text_length v = length (text_bytes v)
 
 -- the absent default, or a literal; a text has at most 255 bytes
 pub data IsDefault (d : Declared) (t : Ty) (v : Value) : Type 0 where
@@ -83,6 +88,7 @@ value_size v = fold-Value ℕ (ℕ × ℕ) size_layer size_pair v
 -- ---- what may be declared
 
 pub record MemberFits (d : Declared) (m : Member) : Type 0 where
+  pub tag : m.tag < 256
   pub name : IsName m.name
   pub ty : IsTypeIn d m.ty
   pub default : IsDefault d m.ty m.default
@@ -99,6 +105,7 @@ pub record StructFits (d : Declared) (s : StructDesc) : Type 0 where
 pub record EnumFits (d : Declared) (e : EnumDesc) : Type 0 where
   pub name : IsNew d e.module e.name
   pub items : All (λ (i : Item). IsName i.name) e.items
+  pub numbers : All (λ (i : Item). is_signed 31 i.number ≡ true) e.items
   pub names_differ : AllDiffer (map (λ (i : Item). i.name) e.items)
   pub few : length e.items ≤ 1024
   pub room : length d.enums < 1024

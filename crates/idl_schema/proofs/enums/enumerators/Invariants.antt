@@ -1,5 +1,5 @@
 use Rattle.std.proofs.Common.{◌≡◌, take, []}
-use Rattle.idl_rules.specs.Literals.{next_number}
+use Rattle.idl_scene.specs.Literals.{next_number}
 use Rattle.idl_schema.specs.SchemaOf.{items_after}
 use Rattle.idl_schema.proofs.enums.enumerators.Given as goal
 
