@@ -3,14 +3,14 @@ use Rattle.std.proofs.Common.{◌≡◌, ℕ, ◌+◌, ◌<◌, Option, List, []
 use Rattle.std.specs.Prelude.{pos}
 use Rattle.least_fault.specs.Least.{Notes}
 use Rattle.idl_parse.specs.declared.tree.decl.EnumItem.{EnumItem}
+use Rattle.idl_scene.specs.Faults.{is_below}
+use Rattle.idl_scene.specs.Known.{Scene}
+use Rattle.idl_scene.specs.Literals.{number_after, number_at, next_number}
+use Rattle.idl_scene.specs.declared.check_fault.Fault.{Fault}
+use Rattle.idl_scene.proofs.FaultLaws.{noted_both, noted_nothing}
 use Rattle.idl_rules.specs.Conditions.{enumerator_rules}
-use Rattle.idl_rules.specs.Faults.{is_below}
 use Rattle.idl_rules.specs.JudgeSteps.{found_at, found_in}
-use Rattle.idl_rules.specs.Known.{Scene}
-use Rattle.idl_rules.specs.Literals.{number_after, number_at, next_number}
-use Rattle.idl_rules.specs.NumberSteps.{faults_of_number}
-use Rattle.idl_rules.specs.declared.check_fault.Fault.{Fault}
-use Rattle.idl_rules.proofs.FaultLaws.{noted_both, noted_nothing}
+use Rattle.idl_rules.specs.PartSteps.{faults_of_number}
 use Rattle.idl_rules.proofs.LoopLaws.{fold_more, found_more}
 
 module _ (s : Scene) (items : List EnumItem) (i : ℕ) (x : EnumItem) (within : i < length items) (is : x ≡ get_or items i x) (next : ℤ) (e : next ≡ next_number s.text (take i items)) where

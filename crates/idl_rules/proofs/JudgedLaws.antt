@@ -6,15 +6,15 @@ use Rattle.least_fault.proofs.Lesser.{lesser_none, lesser_assoc, least_append}
 use Rattle.least_fault.proofs.Together.{least_together}
 use Rattle.idl_parse.specs.declared.tree.func.ParamTree.{ParamTree}
 use Rattle.idl_parse.specs.declared.tree.type_tree.TypeTree.{TypeTree}
+use Rattle.idl_scene.specs.Faults.{is_below}
+use Rattle.idl_scene.specs.Items.{What, Item}
+use Rattle.idl_scene.specs.Known.{Scene}
+use Rattle.idl_scene.specs.declared.check_fault.Fault.{Fault}
+use Rattle.idl_scene.proofs.FaultLaws.{order}
 use Rattle.idl_rules.specs.Conditions.{Rule, all_of, State, scene_at, state_with, state_after, at_first, include_rules, block_rules, declaration_rules, type_rules, name_rules, member_rules, enumerator_rules, const_rules, key_rules, param_rules, conditions}
-use Rattle.idl_rules.specs.Faults.{is_below}
-use Rattle.idl_rules.specs.Items.{What, Item}
 use Rattle.idl_rules.specs.JudgeSteps.{at_scene, found_at, found_in, type_faults, types_faults, param_faults, params_faults, list_faults, lists_faults, judged_faults, Judged, judged_after}
-use Rattle.idl_rules.specs.Known.{Scene}
 use Rattle.idl_rules.specs.Parts.{NameList, includes_of, blocks_of, declarations_of, types_of, name_lists_of, members_of, enumerators_of, consts_of, keys_of, params_of}
 use Rattle.idl_rules.specs.Rules.{twice_in_list, reserved_in_list, too_many_in_list}
-use Rattle.idl_rules.specs.declared.check_fault.Fault.{Fault}
-use Rattle.idl_rules.proofs.FaultLaws.{order}
 
 abbrev least : List Fault → Option Fault
 least faults = least_of is_below faults

@@ -1,12 +1,7 @@
 pub mod EnumeratorLaws
-pub mod FaultLaws
 pub mod JudgedLaws
 pub mod LoopLaws
 pub mod MemberLaws
-pub mod NameLaws
-pub mod NumberLaws
+pub mod SeenLaws
 pub mod SpanLaws
-pub mod TypeLaws
-pub mod TypeSpans
 pub mod WalkLaws
-pub mod WordLaws

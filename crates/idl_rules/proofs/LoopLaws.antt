@@ -8,12 +8,12 @@ use Rattle.least_fault.specs.Least.{Notes}
 use Rattle.least_fault.proofs.Together.{notes_next}
 use Rattle.idl_parse.specs.declared.tree.func.ParamTree.{ParamTree}
 use Rattle.idl_parse.specs.declared.tree.type_tree.TypeTree.{TypeTree}
-use Rattle.idl_rules.specs.Faults.{is_below}
+use Rattle.idl_scene.specs.Faults.{is_below}
+use Rattle.idl_scene.specs.Known.{Scene}
+use Rattle.idl_scene.specs.declared.check_fault.Fault.{Fault}
+use Rattle.idl_scene.proofs.FaultLaws.{order, noted_both}
 use Rattle.idl_rules.specs.JudgeSteps.{type_faults, types_faults, list_faults, lists_faults, param_faults, params_faults}
-use Rattle.idl_rules.specs.Known.{Scene}
 use Rattle.idl_rules.specs.Parts.{NameList}
-use Rattle.idl_rules.specs.declared.check_fault.Fault.{Fault}
-use Rattle.idl_rules.proofs.FaultLaws.{order, noted_both}
 
 pub next_part : {A : Type 0} (xs : List A) (i : ℕ) (x : A) → i < length xs → x ≡ get_or xs i x → take (i + 1) xs ≡ take i xs ++ x ∷ []
 next_part xs i x within is = take_more xs i x within ∙ ap (λ e. take i xs ++ (e ∷ [])) (sym is)

@@ -12,17 +12,18 @@ use Rattle.idl_parse.specs.declared.span.Span.{Span}
 use Rattle.idl_parse.specs.declared.tree.member.MemberTree.{MemberTree}
 use Rattle.idl_parse.specs.declared.tree.type_tree.TypeTree.{out-TypeTree}
 use Rattle.tars_model.specs.Values.{is_unsigned}
+use Rattle.idl_scene.specs.Faults.{is_below, fault_if}
+use Rattle.idl_scene.specs.Known.{Scene}
+use Rattle.idl_scene.specs.NumberSteps.{tag_number, tag_at}
+use Rattle.idl_scene.specs.declared.check_fault.CheckWhy.TheVariants.{TwiceTag, TagRange}
+use Rattle.idl_scene.specs.declared.check_fault.Fault.{Fault}
+use Rattle.idl_scene.proofs.FaultLaws.{order}
 use Rattle.idl_rules.specs.Conditions.{member_rules}
-use Rattle.idl_rules.specs.Faults.{is_below, fault_if}
 use Rattle.idl_rules.specs.JudgeSteps.{found_at, found_in}
-use Rattle.idl_rules.specs.Known.{Scene}
-use Rattle.idl_rules.specs.NumberSteps.{HasSameTags, tag_number, tag_at, tags_with, faults_of_tag, faults_of_member}
+use Rattle.idl_rules.specs.PartSteps.{HasSameTags, tags_with, faults_of_tag, faults_of_member}
 use Rattle.idl_rules.specs.Rules.{tag_of, bad_written, left_out, array_at}
-use Rattle.idl_rules.specs.declared.check_fault.CheckWhy.TheVariants.{TwiceTag, TagRange}
-use Rattle.idl_rules.specs.declared.check_fault.Fault.{Fault}
-use Rattle.idl_rules.proofs.FaultLaws.{order}
 use Rattle.idl_rules.proofs.LoopLaws.{next_part}
-use Rattle.idl_rules.proofs.WordLaws.{or_false, not_not}
+use Rattle.idl_rules.proofs.SeenLaws.{or_false, not_not}
 
 same_number : (a b : ℕ) → nat_eq a b ≡ true → a ≡ b
 same_number a b e = grind (arith, common_steps)

@@ -7,14 +7,14 @@ use Rattle.std.specs.Prelude.{MatchOption}
 use Rattle.least_fault.specs.Least.{IsLeast, Notes, least_of}
 use Rattle.least_fault.proofs.Lesser.{none_empty, some_least}
 use Rattle.idl_parse.specs.Files.{File}
+use Rattle.idl_scene.specs.Faults.{is_below}
+use Rattle.idl_scene.specs.Items.{Item, file_items, items_from, items_of, name_of}
+use Rattle.idl_scene.specs.Known.{Known}
+use Rattle.idl_scene.specs.declared.check_fault.Fault.{Fault}
+use Rattle.idl_scene.specs.declared.known.Room.{Room}
+use Rattle.idl_scene.proofs.FaultLaws.{order}
 use Rattle.idl_rules.specs.Conditions.{scene_at, state_with_what, faults_of}
-use Rattle.idl_rules.specs.Faults.{is_below}
-use Rattle.idl_rules.specs.Items.{Item, file_items, items_from, items_of, name_of}
 use Rattle.idl_rules.specs.JudgeSteps.{Judged, judged_with, judged_after, judged_faults, judged_first}
-use Rattle.idl_rules.specs.Known.{Known}
-use Rattle.idl_rules.specs.declared.check_fault.Fault.{Fault}
-use Rattle.idl_rules.specs.declared.known.Room.{Room}
-use Rattle.idl_rules.proofs.FaultLaws.{order}
 use Rattle.idl_rules.proofs.JudgedLaws.{judged_least}
 use Rattle.idl_rules.proofs.LoopLaws.{map_more, next_part}
 

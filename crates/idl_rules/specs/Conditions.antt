@@ -11,13 +11,14 @@ use Rattle.idl_parse.specs.declared.tree.decl.KeyTree.{KeyTree}
 use Rattle.idl_parse.specs.declared.tree.func.ParamTree.{ParamTree}
 use Rattle.idl_parse.specs.declared.tree.member.MemberTree.{MemberTree}
 use Rattle.idl_parse.specs.declared.tree.type_tree.TypeTree.{TypeTree, out-TypeTree}
-use Rattle.idl_rules.specs.Items.{Included, What, declared, Item, items_of, word}
-use Rattle.idl_rules.specs.Known.{Meaning, a_struct, an_enum, no_type, Known, Scene, find, each_once}
+use Rattle.idl_scene.specs.Items.{Included, What, declared, Item, items_of, word}
+use Rattle.idl_scene.specs.Known.{Meaning, a_struct, an_enum, no_type, Known, Scene, find, each_once}
+use Rattle.idl_scene.specs.Structs.{struct_depth, struct_size}
+use Rattle.idl_scene.specs.Types.{TypeLayer, unknown_type, float, bad_key, deep_type, unsigned_bytes}
+use Rattle.idl_scene.specs.declared.check_fault.Fault.{Fault}
+use Rattle.idl_scene.specs.declared.known.Room.{Room}
 use Rattle.idl_rules.specs.Parts.{NameList, includes_of, blocks_of, declarations_of, types_of, name_lists_of, members_of, enumerators_of, consts_of, keys_of, params_of}
-use Rattle.idl_rules.specs.Rules.{no_include, reserved, twice_in_list, reserved_in_list, too_many_in_list, name_of, twice_declared, reserved_name, too_many, struct_depth, struct_size, deep_struct, large_default, twice_tag, tag_range, bad_default, array, bad_number, bad_const, unknown_struct, unknown_members, routekey}
-use Rattle.idl_rules.specs.Types.{TypeLayer, unknown_type, float, bad_key, deep_type, unsigned_bytes}
-use Rattle.idl_rules.specs.declared.check_fault.Fault.{Fault}
-use Rattle.idl_rules.specs.declared.known.Room.{Room}
+use Rattle.idl_rules.specs.Rules.{no_include, reserved, twice_in_list, reserved_in_list, too_many_in_list, name_of, twice_declared, reserved_name, too_many, deep_struct, large_default, twice_tag, tag_range, bad_default, array, bad_number, bad_const, unknown_struct, unknown_members, routekey}
 
 -- ---- what is known after items
 

@@ -6,13 +6,13 @@ use Rattle.least_fault.specs.Least.{lesser, least_of}
 use Rattle.idl_parse.specs.declared.span.Span.{Span}
 use Rattle.idl_parse.specs.declared.tree.func.ParamTree.{ParamTree}
 use Rattle.idl_parse.specs.declared.tree.type_tree.TypeTree.{TypeTree}
+use Rattle.idl_scene.specs.Faults.{is_below}
+use Rattle.idl_scene.specs.Items.{What, Item}
+use Rattle.idl_scene.specs.Known.{Scene}
+use Rattle.idl_scene.specs.declared.check_fault.Fault.{Fault}
 use Rattle.idl_rules.specs.Conditions.{Rule, State, at_first, scene_at, state_with_what, include_rules, block_rules, declaration_rules, type_rules, member_rules, enumerator_rules, const_rules, key_rules, param_rules}
-use Rattle.idl_rules.specs.Faults.{is_below}
-use Rattle.idl_rules.specs.Items.{What, Item}
-use Rattle.idl_rules.specs.Known.{Scene}
 use Rattle.idl_rules.specs.Parts.{NameList, includes_of, blocks_of, declarations_of, types_of, name_lists_of, members_of, enumerators_of, consts_of, keys_of, params_of}
 use Rattle.idl_rules.specs.Rules.{twice_in_list, reserved_in_list, too_many_in_list}
-use Rattle.idl_rules.specs.declared.check_fault.Fault.{Fault}
 use Rattle.idl_rules.specs.declared.walk.Walk.{Walk}
 
 abbrev pub at_scene : {Part : Type 0} → List (Rule Part) → Scene → List (Condition Part Fault)

@@ -1,13 +1,7 @@
 pub mod Conditions
-pub mod Faults
-pub mod Items
-pub mod Known
-pub mod Literals
 pub mod Parts
 pub mod Rules
-pub mod Types
-pub mod KnownSteps
 pub mod JudgeSteps
 pub mod SeenSteps
-pub mod NumberSteps
 pub mod NamedSteps
+pub mod PartSteps

@@ -1,12 +1,12 @@
 -- For the proofs: faults of a name that is declared, where there is one.
 use Rattle.std.specs.Prelude.{Bool, is_some, Option, List}
 use Rattle.idl_parse.specs.declared.span.Span.{Span}
-use Rattle.idl_rules.specs.Faults.{fault_if}
-use Rattle.idl_rules.specs.Items.{word}
-use Rattle.idl_rules.specs.Known.{Scene, find}
+use Rattle.idl_scene.specs.Faults.{fault_if}
+use Rattle.idl_scene.specs.Items.{word}
+use Rattle.idl_scene.specs.Known.{Scene, find}
+use Rattle.idl_scene.specs.declared.check_fault.CheckWhy.TheVariants.{TwiceName, TooMany}
+use Rattle.idl_scene.specs.declared.check_fault.Fault.{Fault}
 use Rattle.idl_rules.specs.Rules.{at_name, reserved}
-use Rattle.idl_rules.specs.declared.check_fault.CheckWhy.TheVariants.{TwiceName, TooMany}
-use Rattle.idl_rules.specs.declared.check_fault.Fault.{Fault}
 
 abbrev pub twice_named : Scene → Option Span → List Fault
 twice_named s name = at_name (λ name. fault_if (is_some (find s.home (word s.text name) s.known)) s.file name.start TwiceName) name

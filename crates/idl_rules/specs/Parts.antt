@@ -11,8 +11,8 @@ use Rattle.idl_parse.specs.declared.tree.func.FuncTree.{FuncTree}
 use Rattle.idl_parse.specs.declared.tree.func.ParamTree.{ParamTree}
 use Rattle.idl_parse.specs.declared.tree.member.MemberTree.{MemberTree}
 use Rattle.idl_parse.specs.declared.tree.type_tree.TypeTree.{TypeTree}
-use Rattle.idl_rules.specs.Items.{Included, What, included, block, declared}
-use Rattle.idl_rules.specs.Types.{types_in}
+use Rattle.idl_scene.specs.Items.{Included, What, included, block, declared}
+use Rattle.idl_scene.specs.Types.{types_in}
 
 abbrev pub includes_of : What → List Included
 includes_of (included i) = i ∷ []

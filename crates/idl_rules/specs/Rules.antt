@@ -1,11 +1,10 @@
 -- What is wrong with declarations and their parts (docs/IDL.md, "Rules"). What is wrong with types is in
--- specs/Types.antt.
-use Rattle.std.specs.Prelude.{ℕ, ◌+◌, nat_eq, nat_le, nat_lt, Bool, true, false, ◌&&◌, ◌||◌, not, if◌then◌else◌, ℤ, Option, Some, None, is_some, List, [], ◌∷◌, length, fold, codes}
+-- specs/Types.antt of idl_scene.
+use Rattle.std.specs.Prelude.{ℕ, nat_eq, nat_le, nat_lt, Bool, true, false, ◌&&◌, ◌||◌, not, ℤ, Option, Some, None, is_some, List, [], ◌∷◌, length, codes}
 use Rattle.std.specs.List.{list_any, starts_with}
 use Rattle.std.specs.Ordering.{int_eq}
 use Rattle.std.specs.Str.{bytes_eq}
 use Rattle.least_fault.specs.Conditions.{Condition, found_after}
-use Rattle.tars_model.specs.Types.{greater}
 use Rattle.tars_model.specs.Values.{is_signed, is_unsigned}
 use Rattle.idl_parse.specs.Meanings.{whole_number, plain_text}
 use Rattle.idl_parse.specs.declared.span.Span.{Span}
@@ -19,16 +18,16 @@ use Rattle.idl_parse.specs.declared.tree.literal.Literal.{Literal}
 use Rattle.idl_parse.specs.declared.tree.member.ArrayLen.{ArrayLen}
 use Rattle.idl_parse.specs.declared.tree.member.MemberTree.{MemberTree}
 use Rattle.idl_parse.specs.declared.tree.type_tree.TypeTree.{out-TypeTree}
-use Rattle.idl_parse.specs.declared.tree.type_tree.TypeTree.TheOpen as layer
-use Rattle.idl_rules.specs.Faults.{fault_if}
-use Rattle.idl_rules.specs.Items.{Included, word}
-use Rattle.idl_rules.specs.Known.{Scene, find, is_struct, members_of, size_of}
-use Rattle.idl_rules.specs.Literals.{literal_start, fits_literal, number_of_item, number_start}
+use Rattle.idl_scene.specs.Faults.{fault_if}
+use Rattle.idl_scene.specs.Items.{Included, word}
+use Rattle.idl_scene.specs.Known.{Scene, find, is_struct, members_of}
+use Rattle.idl_scene.specs.Literals.{literal_start, fits_literal, number_of_item, number_start}
+use Rattle.idl_scene.specs.Structs.{struct_depth, struct_size}
+use Rattle.idl_scene.specs.Types.{TypeLayer}
+use Rattle.idl_scene.specs.declared.check_fault.CheckWhy.TheVariants.{NoInclude, TwiceName, UnknownName, BadIdentifier, TwiceTag, TagRange, BadDefault, TooDeep, LeftOut, TooMany}
+use Rattle.idl_scene.specs.declared.check_fault.Fault.{Fault}
+use Rattle.idl_scene.specs.declared.known.Room.{Room}
 use Rattle.idl_rules.specs.Parts.{NameList}
-use Rattle.idl_rules.specs.Types.{TypeLayer, meaning_of, one_deeper, type_depth}
-use Rattle.idl_rules.specs.declared.check_fault.CheckWhy.TheVariants.{NoInclude, TwiceName, UnknownName, BadIdentifier, TwiceTag, TagRange, BadDefault, TooDeep, LeftOut, TooMany}
-use Rattle.idl_rules.specs.declared.check_fault.Fault.{Fault}
-use Rattle.idl_rules.specs.declared.known.Room.{Room}
 
 -- the name that is included is that of no file before
 abbrev pub no_include : Scene → Included → List Fault
@@ -95,33 +94,6 @@ abbrev pub too_many : Scene → DeclTree → List Fault
 too_many s decl = at_name (λ name. fault_if (is_none_left (room_for s.room decl)) s.file name.start TooMany) (name_of decl)
 
 -- ---- structs
-
--- the depth of a struct with these members: one more than that of the deepest
-abbrev pub deepest : Scene → List MemberTree → ℕ
-deepest s members = fold (λ depth (m : MemberTree). greater depth (type_depth s m.typed.ty)) 0 members
-
-abbrev pub struct_depth : Scene → List MemberTree → ℕ
-struct_depth s members = one_deeper (deepest s members)
-
--- the greatest size that is counted: one more than there may be
-abbrev pub LARGEST : ℕ
-LARGEST = 1025
-
-abbrev pub capped : ℕ → ℕ
-capped size = if nat_lt LARGEST size then LARGEST else size
-
--- how many values the default of a type has
-abbrev pub type_size : Scene → TypeLayer → ℕ
-type_size s (layer.Named name) = size_of (meaning_of s name)
-type_size s _ = 1
-
-abbrev pub default_size : Scene → TypeLayer → Option Literal → ℕ
-default_size s ty (Some literal) = 1
-default_size s ty None = type_size s ty
-
--- how many values the default of a struct with these members has, itself counted
-abbrev pub struct_size : Scene → List MemberTree → ℕ
-struct_size s members = fold (λ size (m : MemberTree). capped (size + default_size s (out-TypeTree m.typed.ty) m.default)) 1 members
 
 abbrev pub deep_struct : Scene → DeclTree → List Fault
 deep_struct s (decls.Struct d) = fault_if (nat_lt 32 (struct_depth s d.members)) s.file d.name.start TooDeep

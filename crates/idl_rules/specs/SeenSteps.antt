@@ -3,12 +3,12 @@ use Rattle.std.specs.Prelude.{◌≡◌, ℕ, Bool, not, ◌&&◌, List, ◌++�
 use Rattle.std.specs.List.{list_any}
 use Rattle.std.specs.Str.{bytes_eq}
 use Rattle.idl_parse.specs.declared.span.Span.{Span}
-use Rattle.idl_rules.specs.Faults.{fault_if}
-use Rattle.idl_rules.specs.Items.{word}
-use Rattle.idl_rules.specs.Known.{Scene}
+use Rattle.idl_scene.specs.Faults.{fault_if}
+use Rattle.idl_scene.specs.Items.{word}
+use Rattle.idl_scene.specs.Known.{Scene}
+use Rattle.idl_scene.specs.declared.check_fault.CheckWhy.TheVariants.{TwiceName, BadIdentifier, TooMany}
+use Rattle.idl_scene.specs.declared.check_fault.Fault.{Fault}
 use Rattle.idl_rules.specs.Rules.{is_reserved}
-use Rattle.idl_rules.specs.declared.check_fault.CheckWhy.TheVariants.{TwiceName, BadIdentifier, TooMany}
-use Rattle.idl_rules.specs.declared.check_fault.Fault.{Fault}
 
 -- a word stands among those seen just where it stands among the words
 pub record HasSame (seen words : List (List ℕ)) : Type 0 where

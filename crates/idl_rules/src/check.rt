@@ -1,11 +1,11 @@
 ghost use Rattle.std.specs.Prelude.{◌≡◌, ◌<◌, ◌^◌, [], length, IfOk, MatchOption};
 ghost use Rattle.least_fault.specs.Least.{IsLeast};
+ghost use Rattle.idl_scene.specs.Faults.{is_below};
 ghost use Rattle.idl_rules.specs.Conditions.{faults_of};
-ghost use Rattle.idl_rules.specs.Faults.{is_below};
 
-use crate::check_fault::Fault;
 use crate::walk::Walk;
 use idl_parse::Ast;
+use idl_scene::Fault;
 use std::alloc::{AllocError, Global};
 
 /// The first fault of interface files, each of which stands after those that it includes (docs/IDL.md, "Rules").

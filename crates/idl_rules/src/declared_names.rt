@@ -3,22 +3,18 @@
 ghost use Rattle.std.specs.Prelude.{◌≡◌, is_some, [], not};
 ghost use Rattle.least_fault.specs.Least.{Notes};
 ghost use Rattle.idl_parse.specs.TreeSpans.{DeclIn, IfThere, NameIn};
+ghost use Rattle.idl_scene.specs.Faults.{is_below, fault_if};
+ghost use Rattle.idl_scene.specs.Items.{word};
+ghost use Rattle.idl_scene.specs.Known.{find};
 ghost use Rattle.idl_rules.specs.Conditions.{declaration_rules};
-ghost use Rattle.idl_rules.specs.Faults.{is_below, fault_if};
-ghost use Rattle.idl_rules.specs.Items.{word};
 ghost use Rattle.idl_rules.specs.JudgeSteps.{found_at};
-ghost use Rattle.idl_rules.specs.Known.{find};
 ghost use Rattle.idl_rules.specs.NamedSteps.{twice_named, reserved_named, full_named};
 ghost use Rattle.idl_rules.specs.Rules as spec;
 
-use crate::check_fault::{CheckWhy, Fault};
-use crate::known::Room;
 use crate::named::is_reserved;
-use crate::note::note_if;
-use crate::scene::Scene;
-use crate::structs::{struct_depth, struct_size};
 use idl_parse::Span;
 use idl_parse::tree::DeclTree;
+use idl_scene::{CheckWhy, Fault, Room, Scene, note_if, struct_depth, struct_size};
 
 /// How deep a struct may be, and how many values its default may have.
 const MAX_DEPTH: u8 = 32;

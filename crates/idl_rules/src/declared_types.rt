@@ -4,14 +4,44 @@ ghost use Rattle.std.specs.Prelude.{◌≡◌};
 ghost use Rattle.std.specs.List.{All, flat_map};
 ghost use Rattle.least_fault.specs.Least.{Notes};
 ghost use Rattle.idl_parse.specs.TreeSpans.{DeclIn, FuncIn, IfThere, MemberIn, ParamIn, TypeIn};
-ghost use Rattle.idl_rules.specs.Faults.{is_below};
-ghost use Rattle.idl_rules.specs.JudgeSteps.{types_faults};
+ghost use Rattle.idl_scene.specs.Faults.{is_below};
+ghost use Rattle.idl_scene.specs.Types.{types_in};
+ghost use Rattle.idl_rules.specs.JudgeSteps.{type_faults, types_faults};
 ghost use Rattle.idl_rules.specs.Parts.{returned_types, param_types, func_types, member_types, declaration_types};
 
-use crate::check_fault::Fault;
-use crate::scene::Scene;
-use crate::types::judge_type;
 use idl_parse::tree::{DeclTree, FuncTree, MemberTree, ParamTree, TypeTree};
+use idl_scene::{
+    Fault, Scene, note_bad_key, note_deep, note_float, note_unknown, note_unsigned_bytes,
+};
+
+/// Judges one type without those inside it.
+fn judge_layer(ty: &TypeTree, scene: &Scene<'_, '_>, least: &mut Option<Fault>)
+    requires { TypeIn scene.now.text ty.now }
+    ensures { Notes is_below least.old least.new (type_faults scene.now ty.now) }
+{
+    note_unknown(ty, scene, least);
+    note_float(ty, scene, least);
+    note_bad_key(ty, scene, least);
+    note_deep(ty, scene, least);
+    note_unsigned_bytes(ty, scene, least);
+}
+
+/// Judges a type and those inside it.
+fn judge_type(ty: &TypeTree, scene: &Scene<'_, '_>, least: &mut Option<Fault>)
+    requires { TypeIn scene.now.text ty.now }
+    ensures { Notes is_below least.old least.new (types_faults scene.now (types_in ty.now)) }
+{
+    judge_layer(ty, scene, least);
+    match ty {
+        TypeTree::Vector { element, .. } => judge_type(element.get(), scene, least),
+        TypeTree::Map { key, value, .. } => {
+            judge_type(key.get(), scene, least);
+            judge_type(value.get(), scene, least);
+        }
+        TypeTree::Basic { .. } => {}
+        TypeTree::Named(_) => {}
+    }
+}
 
 fn judge_members(members: &[MemberTree], scene: &Scene<'_, '_>, least: &mut Option<Fault>)
     requires { All (MemberIn scene.now.text) members.now }

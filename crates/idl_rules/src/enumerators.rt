@@ -4,18 +4,17 @@ ghost use Rattle.std.specs.Prelude.{◌≡◌};
 ghost use Rattle.std.specs.List.{All};
 ghost use Rattle.least_fault.specs.Least.{Notes};
 ghost use Rattle.idl_parse.specs.TreeSpans.{IfThere, ItemIn, NumberIn};
+ghost use Rattle.idl_scene.specs.Faults.{is_below};
+ghost use Rattle.idl_scene.specs.Literals as spec;
+ghost use Rattle.idl_scene.specs.Literals.{number_at, number_after};
+ghost use Rattle.idl_scene.specs.NumberSteps.{int_of, int_of_option};
 ghost use Rattle.idl_rules.specs.Conditions.{enumerator_rules};
-ghost use Rattle.idl_rules.specs.Faults.{is_below};
 ghost use Rattle.idl_rules.specs.JudgeSteps.{found_in};
-ghost use Rattle.idl_rules.specs.Literals as spec;
-ghost use Rattle.idl_rules.specs.Literals.{number_at, number_after};
-ghost use Rattle.idl_rules.specs.NumberSteps.{int_of, int_of_option, number_after_int, faults_of_number};
+ghost use Rattle.idl_rules.specs.PartSteps.{number_after_int, faults_of_number};
 
-use crate::check_fault::{CheckWhy, Fault};
-use crate::note::note_if;
-use crate::scene::Scene;
 use idl_parse::Span;
 use idl_parse::tree::EnumItem;
+use idl_scene::{CheckWhy, Fault, Scene, note_if};
 
 /// Where the number stands, or the name if there is none.
 fn number_start(item: EnumItem) -> u32
@@ -37,7 +36,7 @@ fn int_of_long(number: Option<i64>) -> Option<i32>
 }
 
 /// The number that is written, or else the next one, if it is an int.
-#[tactic(auto, using(crate::proofs::NumberLaws::int_of_long_is))]
+#[tactic(auto, using(idl_scene::proofs::NumberLaws::int_of_long_is))]
 fn number_at(scene: &Scene<'_, '_>, next: i64, number: Option<Span>) -> Option<i32>
     requires { IfThere (NumberIn scene.now.text) number }
     ensures { result ≡ int_of (number_at scene.now.text next number) }

@@ -6,20 +6,17 @@ ghost use Rattle.std.specs.Str.{bytes_eq};
 ghost use Rattle.least_fault.specs.Conditions.{found_after};
 ghost use Rattle.least_fault.specs.Least.{Notes};
 ghost use Rattle.idl_parse.specs.TreeSpans.{NameIn};
+ghost use Rattle.idl_scene.specs.Faults.{is_below, fault_if};
+ghost use Rattle.idl_scene.specs.declared.check_fault.CheckWhy.TheVariants.{UnknownName as Unknown};
+ghost use Rattle.idl_scene.specs.Known.{is_struct, members_of};
+ghost use Rattle.idl_scene.specs.KnownSteps.{meant};
 ghost use Rattle.idl_rules.specs.Conditions.{key_rules};
-ghost use Rattle.idl_rules.specs.Faults.{is_below, fault_if};
-ghost use Rattle.idl_rules.specs.declared.check_fault.CheckWhy.TheVariants.{UnknownName as Unknown};
 ghost use Rattle.idl_rules.specs.JudgeSteps.{found_at};
-ghost use Rattle.idl_rules.specs.Known.{is_struct, members_of};
-ghost use Rattle.idl_rules.specs.KnownSteps.{meant};
 ghost use Rattle.idl_rules.specs.Rules as spec;
 
-use crate::check_fault::{CheckWhy, Fault};
-use crate::known::Meaning;
-use crate::note::note_if;
-use crate::scene::Scene;
 use idl_parse::Span;
 use idl_parse::tree::KeyTree;
+use idl_scene::{CheckWhy, Fault, Meaning, Scene, note_if};
 
 fn is_struct(meaning: Option<&Meaning<'_>>) -> bool
     ensures { result ≡ is_struct (meant meaning.entry) }

@@ -5,19 +5,16 @@ ghost use Rattle.std.specs.List.{All};
 ghost use Rattle.least_fault.specs.Least.{Notes};
 ghost use Rattle.idl_parse.specs.TreeSpans.{DeclIn, FuncIn, ItemIn, MemberIn, NameIn, ParamIn};
 ghost use Rattle.idl_parse.specs.declared.tree.decl.DeclTree.TheVariants as decls;
+ghost use Rattle.idl_scene.specs.Faults.{is_below};
+ghost use Rattle.idl_scene.specs.KnownSteps.{kept_meaning};
 ghost use Rattle.idl_rules.specs.Conditions.{declared_as};
-ghost use Rattle.idl_rules.specs.Faults.{is_below};
 ghost use Rattle.idl_rules.specs.JudgeSteps.{list_faults, lists_faults};
-ghost use Rattle.idl_rules.specs.KnownSteps.{kept_meaning};
 ghost use Rattle.idl_rules.specs.Parts.{declaration_lists, name_list, param_list};
 
-use crate::check_fault::Fault;
-use crate::known::Meaning;
 use crate::named::judge_names;
-use crate::scene::Scene;
-use crate::structs::{struct_depth, struct_size};
 use idl_parse::Span;
 use idl_parse::tree::{DeclTree, EnumTree, FuncTree, InterfaceTree, StructTree};
+use idl_scene::{Fault, Meaning, Scene, struct_depth, struct_size};
 use std::alloc::{AllocError, Global};
 
 /// How many enumerators an enum may have, functions an interface, and parameters a function.

@@ -5,18 +5,17 @@ ghost use Rattle.std.specs.List.{All};
 ghost use Rattle.least_fault.specs.Least.{Notes};
 ghost use Rattle.idl_parse.specs.TreeSpans.{ArrayIn, IfThere, LiteralIn, MemberIn, NumberIn, TypeIn};
 ghost use Rattle.idl_parse.specs.declared.tree.type_tree.TypeTree.{out-TypeTree};
+ghost use Rattle.idl_scene.specs.Faults.{is_below};
+ghost use Rattle.idl_scene.specs.NumberSteps.{tag_at};
 ghost use Rattle.idl_rules.specs.Conditions.{member_rules};
-ghost use Rattle.idl_rules.specs.Faults.{is_below};
 ghost use Rattle.idl_rules.specs.JudgeSteps.{found_in};
-ghost use Rattle.idl_rules.specs.NumberSteps.{tag_at, tags_with, faults_of_tag, faults_of_member};
+ghost use Rattle.idl_rules.specs.PartSteps.{tags_with, faults_of_tag, faults_of_member};
 ghost use Rattle.idl_rules.specs.Rules as spec;
 
-use crate::check_fault::{CheckWhy, Fault};
 use crate::literals::judge_literal;
-use crate::note::{note, note_if};
-use crate::scene::Scene;
 use idl_parse::Span;
 use idl_parse::tree::{ArrayLen, Literal, MemberTree, TypeTree};
+use idl_scene::{CheckWhy, Fault, Scene, note_if};
 use indexmap::IndexSet;
 use std::alloc::{AllocError, Global};
 

@@ -5,20 +5,17 @@ ghost use Rattle.std.specs.List.{All};
 ghost use Rattle.least_fault.specs.Least.{Notes};
 ghost use Rattle.idl_parse.specs.TreeSpans.{NameIn};
 ghost use Rattle.idl_parse.specs.declared.span.Span.{Span};
-ghost use Rattle.idl_rules.specs.Faults.{is_below};
-ghost use Rattle.idl_rules.specs.Items.{word};
+ghost use Rattle.idl_scene.specs.Faults.{is_below};
+ghost use Rattle.idl_scene.specs.Items.{word};
+ghost use Rattle.idl_scene.specs.Known.{once_more, each_once};
 ghost use Rattle.idl_rules.specs.JudgeSteps.{list_faults};
-ghost use Rattle.idl_rules.specs.Known.{once_more, each_once};
 ghost use Rattle.idl_rules.specs.SeenSteps.{faults_of_name};
 ghost use Rattle.idl_rules.specs.Parts.{name_list};
 ghost use Rattle.idl_rules.specs.Rules as spec;
 
-use crate::check_fault::{CheckWhy, Fault};
-use crate::note::note_if;
-use crate::scene::Scene;
-use crate::word_set::WordSet;
 use idl_parse::Span;
 use idl_parse::tree::{EnumItem, FuncTree, MemberTree, ParamTree};
+use idl_scene::{CheckWhy, Fault, Scene, WordSet, note_if};
 use std::alloc::{AllocError, Global};
 
 /// A part that has a name.

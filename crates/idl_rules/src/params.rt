@@ -3,14 +3,13 @@
 ghost use Rattle.std.specs.Prelude.{◌≡◌, ◌++◌, []};
 ghost use Rattle.std.specs.List.{flat_map};
 ghost use Rattle.least_fault.specs.Least.{Notes};
-ghost use Rattle.idl_rules.specs.Faults.{is_below};
+ghost use Rattle.idl_scene.specs.Faults.{is_below};
 ghost use Rattle.idl_rules.specs.JudgeSteps.{params_faults};
 ghost use Rattle.idl_rules.specs.Parts.{func_params};
 
-use crate::check_fault::Fault;
 use crate::members::note_left_out;
-use crate::scene::Scene;
 use idl_parse::tree::{FuncTree, ParamTree};
+use idl_scene::{Fault, Scene};
 
 fn judge_params(params: &[ParamTree], scene: &Scene<'_, '_>, least: &mut Option<Fault>)
     ensures { Notes is_below least.old least.new (params_faults scene.now params.now) }

@@ -7,27 +7,24 @@ ghost use Rattle.least_fault.specs.Least.{Notes};
 ghost use Rattle.idl_parse.specs.Files.{File};
 ghost use Rattle.idl_parse.specs.TreeSpans.{DeclIn, EntryIn, IfThere, NameIn, StandsAt};
 ghost use Rattle.idl_parse.specs.declared.kind.Kind.TheVariants as kinds;
+ghost use Rattle.idl_scene.specs.Faults.{is_below};
+ghost use Rattle.idl_scene.specs.Items.{item, included, block, declared, entry_items, declared_item, file_items, name_of};
+ghost use Rattle.idl_scene.specs.KnownSteps.{kept_meaning};
 ghost use Rattle.idl_rules.specs.Conditions.{declared_as, known_with, room_with};
-ghost use Rattle.idl_rules.specs.Faults.{is_below};
-ghost use Rattle.idl_rules.specs.Items.{item, included, block, declared, entry_items, declared_item, file_items, name_of};
 ghost use Rattle.idl_rules.specs.JudgeSteps.{judged_faults, parts_faults, judged_of, judged_with, judged_after, judged_first};
-ghost use Rattle.idl_rules.specs.KnownSteps.{kept_meaning};
 ghost use Rattle.idl_rules.specs.Rules as spec;
 
-use crate::check_fault::{CheckWhy, Fault};
 use crate::declared_names::{judge_declaration, name_of, note_reserved};
 use crate::declared_types::judge_types;
 use crate::enumerators::judge_items;
 use crate::keys::judge_key;
-use crate::known::{Meaning, Names, Room};
 use crate::lists::judge_lists;
 use crate::literals::judge_literal;
 use crate::members::judge_members;
-use crate::note::note_if;
 use crate::params::judge_routekeys;
-use crate::scene::Scene;
 use idl_parse::tree::{DeclTree, Entry};
 use idl_parse::{Ast, Span, plain_text};
+use idl_scene::{CheckWhy, Fault, Meaning, Names, Room, Scene, note_if};
 use std::alloc::{AllocError, Global};
 
 /// What is known after what was judged, and the least fault of it.

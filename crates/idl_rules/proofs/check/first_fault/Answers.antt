@@ -1,6 +1,6 @@
 use Rattle.std.proofs.Common.{map, take, length, ◌≤◌, sym, ap, ◌∙◌, arith}
 use Rattle.std.proofs.lemmas.List.{drop_all}
-use Rattle.idl_rules.specs.Items.{items_from, name_of}
+use Rattle.idl_scene.specs.Items.{items_from, name_of}
 use Rattle.idl_rules.specs.JudgeSteps.{judged_of, judged_after}
 use Rattle.idl_rules.proofs.WalkLaws.{files_next, first_is}
 use Rattle.idl_rules.proofs.check.first_fault.Goals as goal

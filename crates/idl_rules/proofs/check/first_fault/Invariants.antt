@@ -1,5 +1,5 @@
 use Rattle.std.proofs.Common.{◌≡◌, map, take, drop}
-use Rattle.idl_rules.specs.Items.{items_from, items_of, name_of}
+use Rattle.idl_scene.specs.Items.{items_from, items_of, name_of}
 use Rattle.idl_rules.specs.JudgeSteps.{judged_of, judged_after, judged_first}
 use Rattle.idl_rules.proofs.check.first_fault.Given as goal
 

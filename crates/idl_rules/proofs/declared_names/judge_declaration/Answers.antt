@@ -1,7 +1,7 @@
 use Rattle.std.proofs.Common.{◌≡◌, ap, ◌∙◌}
-use Rattle.idl_rules.specs.Known.{Scene}
+use Rattle.idl_scene.specs.Known.{Scene}
+use Rattle.idl_scene.proofs.FaultLaws.{noted_both, noted_nothing}
 use Rattle.idl_rules.specs.Rules.{is_none_left, room_for}
-use Rattle.idl_rules.proofs.FaultLaws.{noted_both, noted_nothing}
 use Rattle.idl_rules.proofs.declared_names.judge_declaration.Goals as goal
 
 pub returns : goal.returns

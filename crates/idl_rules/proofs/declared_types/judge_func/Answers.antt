@@ -1,6 +1,6 @@
 use Rattle.std.proofs.lemmas.Grind.{flat_map-append}
+use Rattle.idl_scene.proofs.FaultLaws.{noted_both}
 use Rattle.idl_rules.specs.JudgeSteps.{type_faults}
-use Rattle.idl_rules.proofs.FaultLaws.{noted_both}
 use Rattle.idl_rules.proofs.declared_types.judge_func.Goals as goal
 
 pub returns : goal.returns

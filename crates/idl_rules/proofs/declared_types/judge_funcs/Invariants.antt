@@ -1,7 +1,7 @@
 use Rattle.std.proofs.Common.{take}
 use Rattle.std.specs.List.{flat_map}
 use Rattle.least_fault.specs.Least.{Notes}
-use Rattle.idl_rules.specs.Faults.{is_below}
+use Rattle.idl_scene.specs.Faults.{is_below}
 use Rattle.idl_rules.specs.JudgeSteps.{types_faults}
 use Rattle.idl_rules.specs.Parts.{func_types}
 use Rattle.idl_rules.proofs.declared_types.judge_funcs.Given as goal

@@ -1,4 +1,4 @@
-use Rattle.idl_rules.proofs.FaultLaws.{noted_both, noted_nothing}
+use Rattle.idl_scene.proofs.FaultLaws.{noted_both, noted_nothing}
 use Rattle.idl_rules.proofs.keys.judge_key.Goals as goal
 
 pub returns : goal.returns

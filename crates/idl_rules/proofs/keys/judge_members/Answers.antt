@@ -1,7 +1,7 @@
 use Rattle.std.proofs.Common.{get_or}
 use Rattle.std.proofs.lemmas.List.{get_or_default}
-use Rattle.idl_rules.specs.Known.{members_of}
-use Rattle.idl_rules.specs.KnownSteps.{meant}
+use Rattle.idl_scene.specs.Known.{members_of}
+use Rattle.idl_scene.specs.KnownSteps.{meant}
 use Rattle.idl_rules.specs.Rules.{unknown_member}
 use Rattle.idl_rules.proofs.LoopLaws.{found_more}
 use Rattle.idl_rules.proofs.keys.judge_members.Goals as goal

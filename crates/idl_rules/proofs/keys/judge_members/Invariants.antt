@@ -1,9 +1,9 @@
 use Rattle.std.proofs.Common.{take, []}
 use Rattle.least_fault.specs.Conditions.{found_after}
 use Rattle.least_fault.specs.Least.{Notes}
-use Rattle.idl_rules.specs.Faults.{is_below}
-use Rattle.idl_rules.specs.Known.{members_of}
-use Rattle.idl_rules.specs.KnownSteps.{meant}
+use Rattle.idl_scene.specs.Faults.{is_below}
+use Rattle.idl_scene.specs.Known.{members_of}
+use Rattle.idl_scene.specs.KnownSteps.{meant}
 use Rattle.idl_rules.specs.Rules.{unknown_member}
 use Rattle.idl_rules.proofs.keys.judge_members.Given as goal
 

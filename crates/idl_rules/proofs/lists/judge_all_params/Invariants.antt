@@ -1,6 +1,6 @@
 use Rattle.std.proofs.Common.{map, take}
 use Rattle.least_fault.specs.Least.{Notes}
-use Rattle.idl_rules.specs.Faults.{is_below}
+use Rattle.idl_scene.specs.Faults.{is_below}
 use Rattle.idl_rules.specs.JudgeSteps.{lists_faults}
 use Rattle.idl_rules.specs.Parts.{param_list}
 use Rattle.idl_rules.proofs.lists.judge_all_params.Given as goal

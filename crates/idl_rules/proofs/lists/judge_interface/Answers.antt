@@ -1,4 +1,4 @@
-use Rattle.idl_rules.proofs.FaultLaws.{noted_both}
+use Rattle.idl_scene.proofs.FaultLaws.{noted_both}
 use Rattle.idl_rules.proofs.lists.judge_interface.Goals as goal
 
 pub returns : goal.returns

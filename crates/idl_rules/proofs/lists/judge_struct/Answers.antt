@@ -1,4 +1,4 @@
-use Rattle.idl_rules.proofs.FaultLaws.{noted_nothing, noted_both}
+use Rattle.idl_scene.proofs.FaultLaws.{noted_nothing, noted_both}
 use Rattle.idl_rules.proofs.lists.judge_struct.Goals as goal
 
 pub returns-clause-found : goal.returns-clause-found

@@ -1,9 +1,9 @@
 use Rattle.std.proofs.Common.{take}
 use Rattle.least_fault.specs.Least.{Notes}
+use Rattle.idl_scene.specs.Faults.{is_below}
 use Rattle.idl_rules.specs.Conditions.{member_rules}
-use Rattle.idl_rules.specs.Faults.{is_below}
 use Rattle.idl_rules.specs.JudgeSteps.{found_in}
-use Rattle.idl_rules.specs.NumberSteps.{HasSameTags}
+use Rattle.idl_rules.specs.PartSteps.{HasSameTags}
 use Rattle.idl_rules.proofs.members.judge_members.Given as goal
 
 abbrev pub invariant-loop-member : goal.invariant-loop-member

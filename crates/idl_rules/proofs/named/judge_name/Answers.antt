@@ -1,9 +1,9 @@
 use Rattle.std.proofs.Common.{not, ◌&&◌, ap, ◌∙◌}
 use Rattle.std.specs.List.{list_any}
 use Rattle.std.specs.Str.{bytes_eq}
-use Rattle.idl_rules.specs.Known.{Scene}
+use Rattle.idl_scene.specs.Known.{Scene}
 use Rattle.idl_rules.specs.Rules.{is_reserved}
-use Rattle.idl_rules.proofs.WordLaws.{name_noted}
+use Rattle.idl_rules.proofs.SeenLaws.{name_noted}
 use Rattle.idl_rules.proofs.named.judge_name.Goals as goal
 
 pub returns-clause-found : goal.returns-clause-found

@@ -1,6 +1,6 @@
 use Rattle.std.proofs.Common.{[], ◌∙◌}
 use Rattle.idl_rules.specs.Parts.{name_list}
-use Rattle.idl_rules.proofs.WordLaws.{words_next, seen_next, names_next}
+use Rattle.idl_rules.proofs.SeenLaws.{words_next, seen_next, names_next}
 use Rattle.idl_rules.proofs.named.judge_names.Goals as goal
 
 pub loop-count-preserved : goal.loop-count-preserved

@@ -1,11 +1,11 @@
 use Rattle.std.proofs.Common.{◌≡◌, map, take, []}
 use Rattle.least_fault.specs.Conditions.{found_after}
 use Rattle.least_fault.specs.Least.{Notes}
-use Rattle.idl_rules.specs.Faults.{is_below}
-use Rattle.idl_rules.specs.Items.{word}
+use Rattle.idl_scene.specs.Faults.{is_below}
+use Rattle.idl_scene.specs.Items.{word}
+use Rattle.idl_scene.specs.Known.{each_once}
 use Rattle.idl_rules.specs.JudgeSteps.{name_faults}
 use Rattle.idl_rules.specs.Parts.{name_list}
-use Rattle.idl_rules.specs.Known.{each_once}
 use Rattle.idl_rules.specs.SeenSteps.{HasSame}
 use Rattle.idl_rules.proofs.named.judge_names.Given as goal
 

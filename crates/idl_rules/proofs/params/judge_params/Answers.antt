@@ -1,5 +1,5 @@
+use Rattle.idl_scene.proofs.FaultLaws.{noted_both, noted_nothing}
 use Rattle.idl_rules.specs.JudgeSteps.{param_faults}
-use Rattle.idl_rules.proofs.FaultLaws.{noted_both, noted_nothing}
 use Rattle.idl_rules.proofs.LoopLaws.{flat_more}
 use Rattle.idl_rules.proofs.params.judge_params.Goals as goal
 

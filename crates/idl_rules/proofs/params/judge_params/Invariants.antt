@@ -1,6 +1,6 @@
 use Rattle.std.proofs.Common.{take}
 use Rattle.least_fault.specs.Least.{Notes}
-use Rattle.idl_rules.specs.Faults.{is_below}
+use Rattle.idl_scene.specs.Faults.{is_below}
 use Rattle.idl_rules.specs.JudgeSteps.{params_faults}
 use Rattle.idl_rules.proofs.params.judge_params.Given as goal
 

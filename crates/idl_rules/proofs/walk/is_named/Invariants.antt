@@ -1,7 +1,7 @@
 use Rattle.std.proofs.Common.{◌≡◌, map, length}
 use Rattle.std.specs.List.{list_any}
 use Rattle.std.specs.Str.{bytes_eq}
-use Rattle.idl_rules.specs.Items.{name_of}
+use Rattle.idl_scene.specs.Items.{name_of}
 use Rattle.idl_rules.proofs.walk.is_named.Given as goal
 
 abbrev pub invariant-loop-left : goal.invariant-loop-left

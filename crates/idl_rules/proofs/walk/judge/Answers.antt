@@ -1,4 +1,4 @@
-use Rattle.idl_rules.proofs.FaultLaws.{noted_both, noted_nothing}
+use Rattle.idl_scene.proofs.FaultLaws.{noted_both, noted_nothing}
 use Rattle.idl_rules.proofs.walk.judge.Goals as goal
 
 pub returns-clause-found : goal.returns-clause-found

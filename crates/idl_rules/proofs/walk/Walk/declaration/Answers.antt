@@ -1,8 +1,8 @@
 use Rattle.std.proofs.Common.{ap, ◌∙◌}
+use Rattle.idl_scene.specs.Items.{item, declared}
+use Rattle.idl_scene.specs.KnownSteps.{kept_meaning}
 use Rattle.idl_rules.specs.Conditions.{known_with}
-use Rattle.idl_rules.specs.Items.{item, declared}
 use Rattle.idl_rules.specs.JudgeSteps.{judged_of}
-use Rattle.idl_rules.specs.KnownSteps.{kept_meaning}
 use Rattle.idl_rules.specs.Rules.{name_of}
 use Rattle.idl_rules.proofs.WalkLaws.{judged_is}
 use Rattle.idl_rules.proofs.walk.Walk.declaration.Goals as goal

@@ -1,4 +1,4 @@
-use Rattle.idl_rules.specs.Items.{declared_item}
+use Rattle.idl_scene.specs.Items.{declared_item}
 use Rattle.idl_rules.specs.JudgeSteps.{judged_of}
 use Rattle.idl_rules.proofs.WalkLaws.{judged_more}
 use Rattle.idl_rules.proofs.walk.Walk.declarations.Goals as goal

@@ -1,5 +1,5 @@
 use Rattle.std.proofs.Common.{◌≡◌, map, take}
-use Rattle.idl_rules.specs.Items.{declared_item}
+use Rattle.idl_scene.specs.Items.{declared_item}
 use Rattle.idl_rules.specs.JudgeSteps.{judged_of, judged_after}
 use Rattle.idl_rules.proofs.walk.Walk.declarations.Given as goal
 

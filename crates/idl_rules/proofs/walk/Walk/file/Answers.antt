@@ -1,5 +1,5 @@
 use Rattle.std.proofs.Common.{map}
-use Rattle.idl_rules.specs.Items.{entry_items, name_of}
+use Rattle.idl_scene.specs.Items.{entry_items, name_of}
 use Rattle.idl_rules.specs.JudgeSteps.{judged_of}
 use Rattle.idl_rules.proofs.WalkLaws.{judged_flat}
 use Rattle.idl_rules.proofs.walk.Walk.file.Goals as goal

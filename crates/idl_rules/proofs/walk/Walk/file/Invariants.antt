@@ -1,6 +1,6 @@
 use Rattle.std.proofs.Common.{◌≡◌, map, take}
 use Rattle.std.specs.List.{flat_map}
-use Rattle.idl_rules.specs.Items.{entry_items, name_of}
+use Rattle.idl_scene.specs.Items.{entry_items, name_of}
 use Rattle.idl_rules.specs.JudgeSteps.{judged_of, judged_after}
 use Rattle.idl_rules.proofs.walk.Walk.file.Given as goal
 

@@ -1,6 +1,0 @@
-use Rattle.std.proofs.Common.{◌≡◌, take}
-use Rattle.idl_rules.specs.Rules.{deepest}
-use Rattle.idl_rules.proofs.structs.deepest.Given as goal
-
-abbrev pub invariant-loop-member : goal.invariant-loop-member
-invariant-loop-member l = l.depth ≡ deepest l.scene (take l.member-index l.members)

@@ -1,6 +1,0 @@
-use Rattle.std.proofs.Common.{◌≡◌, take}
-use Rattle.idl_rules.specs.Rules.{struct_size}
-use Rattle.idl_rules.proofs.structs.struct_size.Given as goal
-
-abbrev pub invariant-loop-member : goal.invariant-loop-member
-invariant-loop-member l = l.size ≡ struct_size l.scene (take l.member-index l.members)
