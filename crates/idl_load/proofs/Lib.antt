@@ -1,3 +1,5 @@
 pub mod Texts
 pub mod Readings
+pub mod Seeing
 pub mod Steps
+pub mod Bounds

@@ -1,19 +1,22 @@
 -- For the proofs: what the steps of loading return, beside what loading gives (specs/Loading.antt).
-use Rattle.std.specs.Prelude.{◌≡◌, ℕ, List, Option, Some, None, Result, Ok, Err}
+use Rattle.std.specs.Prelude.{◌≡◌, ℕ, Bool, true, false, List, ◌++◌, Option, Some, None, Result, Ok, Err}
+use Rattle.std.specs.List.{list_any}
+use Rattle.std.specs.Str.{bytes_eq}
 use Rattle.idl_parse.specs.Files.{File}
 use Rattle.idl_parse.specs.declared.lex_fault.LexFault.{LexFault}
 use Rattle.idl_parse.specs.declared.lex_fault.LexFault.TheVariants as lexes
 use Rattle.idl_parse.specs.declared.parse_fault.ParseFault.{ParseFault}
 use Rattle.idl_parse.specs.declared.parse_fault.ParseFault.TheVariants as parses
-use Rattle.idl_load.specs.FileText.{FileText, tree, bad}
+use Rattle.idl_load.specs.FileText.{FileText, tree, bad, IsText}
 use Rattle.idl_load.specs.LoadAnswers.{IsErrGiven}
-use Rattle.idl_load.specs.Loading.{Loads}
+use Rattle.idl_load.specs.Loading.{Reading, Loads}
 use Rattle.idl_load.specs.declared.file_fault.FileFault.TheVariants.{Lex, Parse}
 use Rattle.idl_load.specs.declared.files_fault.FilesFault.{FilesFault}
 use Rattle.idl_load.specs.declared.files_fault.FilesFault.TheVariants as files
 use Rattle.idl_load.specs.declared.progress.Progress.{Progress}
 use Rattle.idl_load.specs.declared.tree_fault.TreeFault.{TreeFault}
 use Rattle.idl_load.specs.declared.tree_fault.TreeFault.TheVariants as trees
+use Rattle.tars_base.specs.Contents.{Contents, AreTold}
 use Rattle.tars_base.specs.declared.fault.ReadFault.{ReadFault}
 use Rattle.tars_base.specs.declared.fault.ReadFault.TheVariants as reads
 
@@ -34,6 +37,29 @@ parse_refused parses.Memory = trees.Memory
 abbrev pub fault_of : ReadFault → FilesFault
 fault_of reads.Failed = files.Read
 fault_of reads.Memory = files.Memory
+
+-- what is read under a name is what the files hold
+pub record ReadsAt (contents : Contents) (read : Reading) (name : List ℕ) : Type 0 where
+  pub missing : contents name ≡ None → read name ≡ None
+  pub present : (bytes : List ℕ) → contents name ≡ Some bytes → (text : FileText) × (read name ≡ Some (bytes, text)) × IsText bytes text
+
+-- whether the file of a name was begun
+abbrev pub is_in : List (List ℕ) → List ℕ → Bool
+is_in begun name = list_any (bytes_eq name) begun
+
+-- the same of each file that is begun later, and was not before
+abbrev pub ReadsBetween : List (List ℕ) → List (List ℕ) → Contents → Reading → Type 0
+ReadsBetween before later contents read = (name : List ℕ) → is_in later name ≡ true → is_in before name ≡ false → ReadsAt contents read name
+
+-- this holds of what is read of the files that a step begins, of some contents, which are those of the files where they are told
+pub record ForStep (told : Option Contents) (before later : List (List ℕ)) (P : Reading → Type 0) : Type 0 where
+  pub seen : Contents
+  pub told_so : AreTold told seen
+  pub so : (read : Reading) → ReadsBetween before later seen read → P read
+
+-- names that are begun stay begun
+abbrev pub Keeps : List (List ℕ) → List (List ℕ) → Type 0
+Keeps before later = (more : List (List ℕ)) × (later ≡ before ++ more)
 
 -- what loading gives, by what a step returned and left
 abbrev pub IsGiven : {A : Type 0} → Result A FilesFault → Progress → Loads → Type 0

@@ -1,9 +1,10 @@
 //! A file and those that it includes.
 
-ghost use Rattle.std.specs.Prelude.{◌≡◌, ◌≤◌, ◌<◌, ◌+◌, ℕ, length, slice_range, List as Listed};
+ghost use Rattle.std.specs.Prelude.{◌≡◌, ◌≤◌, ◌<◌, ◌+◌, ℕ, false, length, slice_range, IfOk, List as Listed};
+ghost use Rattle.std.specs.List.{All};
 ghost use Rattle.idl_load.specs.Loading.{MAX_FILES as most_files, include as included, follow as followed, visit as visited, load_of};
 ghost use Rattle.idl_load.specs.LoadAnswers.{ForRead, HasLoaded};
-ghost use Rattle.idl_load.specs.LoadSteps.{IsGiven, IsRefusedFor};
+ghost use Rattle.idl_load.specs.LoadSteps.{IsGiven, IsRefusedFor, ForStep, Keeps, is_in};
 ghost use Rattle.idl_parse.specs.Files.{include_spans};
 ghost use Rattle.idl_parse.specs.Meanings.{plain_text as meaning};
 ghost use Rattle.idl_parse.specs.TreeSpans.{StandsAt};
@@ -12,6 +13,7 @@ ghost use Rattle.idl_load.specs.FileText.{FileText, IsText};
 ghost use Rattle.idl_load.specs.Loading.{Reading, Reads};
 ghost use Rattle.tars_base.specs.Causes.{HasCauseOf};
 ghost use Rattle.tars_base.specs.Contents.{Contents as Told};
+ghost use Rattle.tars_base.specs.Limits.{MAX_FILE as longest};
 
 use crate::file_fault::FileFault;
 use crate::files_fault::FilesFault;
@@ -55,7 +57,8 @@ fn include<F: Files>(
     requires stands { StandsAt ast.now.text TextKind span }
     requires room { most_files ≤ room + length progress.old.begun }
     ensures grows { length progress.old.begun ≤ length progress.new.begun }
-    ensures exact { ForRead (F.contents files.old) (λ read. IsGiven result progress.new
+    ensures keeps { Keeps progress.old.begun progress.new.begun }
+    ensures exact { ForStep (F.contents files.old) progress.old.begun progress.new.begun (λ read. IsGiven result progress.new
         (included (visited room read) file.now progress.old (meaning (slice_range ast.now.text span.start span.end)) span.start)) }
     ensures same { F.contents files.new ≡ F.contents files.old }
     ensures cause { HasCauseOf FilesFault.Read (F.faults files.old) (F.faults files.new) result }
@@ -87,7 +90,8 @@ fn follow<F: Files>(
 ) -> Result<(), FilesFault>
     requires room { most_files ≤ room + length progress.old.begun }
     ensures grows { length progress.old.begun ≤ length progress.new.begun }
-    ensures exact { ForRead (F.contents files.old) (λ read. IsGiven result progress.new
+    ensures keeps { Keeps progress.old.begun progress.new.begun }
+    ensures exact { ForStep (F.contents files.old) progress.old.begun progress.new.begun (λ read. IsGiven result progress.new
         (followed (visited room read) file.now ast.now.text progress.old (include_spans ast.now.entries))) }
     ensures same { F.contents files.new ≡ F.contents files.old }
     ensures cause { HasCauseOf FilesFault.Read (F.faults files.old) (F.faults files.new) result }
@@ -111,8 +115,10 @@ fn visit<F: Files>(
 ) -> Result<(), FilesFault>
     requires room { most_files ≤ room + length progress.old.begun }
     requires few { length progress.old.begun < most_files }
+    requires fresh { is_in progress.old.begun name.now ≡ false }
     ensures grows { length progress.old.begun ≤ length progress.new.begun }
-    ensures exact { ForRead (F.contents files.old) (λ read. IsGiven result progress.new (visited room read progress.old name.now)) }
+    ensures keeps { Keeps progress.old.begun progress.new.begun }
+    ensures exact { ForStep (F.contents files.old) progress.old.begun progress.new.begun (λ read. IsGiven result progress.new (visited room read progress.old name.now)) }
     ensures same { F.contents files.new ≡ F.contents files.old }
     ensures cause { HasCauseOf FilesFault.Read (F.faults files.old) (F.faults files.new) result }
 {
@@ -135,8 +141,10 @@ pub fn load_files<F: Files>(
     files: &mut F,
     name: &str,
 ) -> Result<List<Ast>, FilesFault>
-    // Where contents are exposed, this is what loading gives of them.
+    // This is what loading gives of the files; of what was read of them, where they tell no contents.
     ensures exact { ForRead (F.contents files.old) (λ read. HasLoaded result (load_of read name.now)) }
+    ensures few { IfOk result (λ found. length found ≤ most_files) }
+    ensures short { IfOk result (λ found. All (λ file. length file.text ≤ longest) found) }
     ensures same { F.contents files.new ≡ F.contents files.old }
     ensures cause { HasCauseOf FilesFault.Read (F.faults files.old) (F.faults files.new) result }
 {

@@ -11,6 +11,19 @@ abbrev pub IsPrefixOfFile : Option Contents → List ℕ → ℕ → List ℕ �
 IsPrefixOfFile None name most bytes = Unit {0}
 IsPrefixOfFile (Some files) name most bytes = MatchOption (files name) ⊥ (λ file. bytes ≡ take most file)
 
+-- where contents are told, these are they
+abbrev pub AreTold : Option Contents → Contents → Type 0
+AreTold None contents = Unit {0}
+AreTold (Some told) contents = (name : List ℕ) → contents name ≡ told name
+
+-- what the files hold at each step of a command; they may change in between
+abbrev pub Held : Type 0
+Held = ℕ → Contents
+
+-- where contents are told, they are held at each step
+abbrev pub IsHeld : Option Contents → Held → Type 0
+IsHeld told held = (step : ℕ) → AreTold told (held step)
+
 -- this holds, and of nothing else
 pub record HoldsOnly {A : Type 0} (P : A → Type 0) (x : A) : Type 0 where
   pub holds : P x
