@@ -2,6 +2,7 @@
 
 ghost use Rattle.std.specs.Prelude.{◌≡◌, ◌++◌, None, IfOk, OnOk};
 ghost use Rattle.std.specs.Option.{option_map};
+ghost use Rattle.tars_model.specs.Schemas.{IsSchema};
 ghost use Rattle.canonical_text.specs.Canonical.{block_start, block_end, turn, blocks, canonical};
 
 use crate::decls::{home_of, put_decl};
@@ -44,7 +45,8 @@ fn turn(text: &mut TextBuffer, block: &Option<&[u8]>, home: &[u8]) -> Result<(),
 
 #[tactic(auto, unfolding(crate::specs::Canonical::blocks))]
 fn put_blocks(alloc: Global, text: &mut TextBuffer, schema: &Schema) -> Result<(), AllocError>
-    ensures { OnOk result (text.new ≡ text.old ++ blocks schema.now None schema.now.order) }
+    ensures text { OnOk result (text.new ≡ text.old ++ blocks schema.now None schema.now.order) }
+    ensures rules { IsSchema schema.now }
 {
     let mut block = None;
     for decl in schema.order() {
@@ -59,7 +61,9 @@ fn put_blocks(alloc: Global, text: &mut TextBuffer, schema: &Schema) -> Result<(
 /// The canonical text of what a schema declares.
 #[tactic(auto, unfolding(crate::specs::Canonical::canonical))]
 pub fn print(alloc: Global, schema: &Schema) -> Result<Vec<u8>, AllocError>
-    ensures { IfOk result (λ text. text.items ≡ canonical schema.now) }
+    ensures text { IfOk result (λ text. text.items ≡ canonical schema.now) }
+    // Whatever comes of it, the schema keeps the rules.
+    ensures rules { IsSchema schema.now }
 {
     let mut text = TextBuffer::new(alloc);
     put_blocks(alloc, &mut text, schema)?;

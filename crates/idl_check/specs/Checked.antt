@@ -3,8 +3,8 @@ use Rattle.std.specs.Prelude.{◌≡◌, List, [], Result, Ok, Err}
 use Rattle.idl_check.specs.declared.check_fault.CheckFault.{CheckFault}
 use Rattle.idl_check.specs.declared.check_fault.CheckFault.TheVariants.{Bad, Memory}
 use Rattle.idl_parse.specs.Files.{File}
+use Rattle.idl_scene.specs.Faults.{is_below}
 use Rattle.idl_rules.specs.Conditions.{faults_of}
-use Rattle.idl_rules.specs.Faults.{is_below}
 use Rattle.idl_schema.specs.SchemaOf.{schema_of}
 use Rattle.least_fault.specs.Least.{IsLeast}
 use Rattle.tars_model.specs.Declarations.{Declared}

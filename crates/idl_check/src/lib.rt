@@ -4,8 +4,9 @@
 
 mod check_fault;
 mod checking;
+mod printing;
 
-pub use canonical_text::print;
 pub use check_fault::CheckFault;
 pub use checking::check;
 pub use idl_rules::CheckWhy;
+pub use printing::print;

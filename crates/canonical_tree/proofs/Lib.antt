@@ -1,0 +1,5 @@
+pub mod Lists
+pub mod DeclFits
+pub mod Deriving
+pub mod Lexing
+pub mod Canonical
