@@ -1,17 +1,32 @@
 ghost use Rattle.std.specs.Prelude.{◌≡◌, ◌++◌, not, OnOk, IfOk, count_by};
 ghost use Rattle.std.specs.List.{flat_map};
-ghost use Rattle.session_model.specs.Sessions.{func_of};
+ghost use Rattle.session_model.specs.Sessions.{interface_of, func_of};
 ghost use Rattle.report_lines.specs.ReportText.{pick_text, id_text, call_line, done_line};
 
 use crate::lines::Lines;
 use session_model::{CallId, Loaded, PickNote, Row};
 use std::alloc::AllocError;
+use tars_model::FuncDesc;
+
+/// The functions of the interface, and none where there is no such interface.
+fn funcs_of(loaded: &Loaded) -> &[FuncDesc]
+    ensures { result.now ≡ (interface_of loaded.now).funcs }
+{
+    match loaded
+        .client
+        .interfaces()
+        .get(loaded.client_interface as usize)
+    {
+        Some(interface) => interface.funcs.as_slice(),
+        None => &[],
+    }
+}
 
 /// The name of a function of the interface, and none where it has no such function.
 fn func_name(loaded: &Loaded, func: u32) -> &[u8]
     ensures { result.now ≡ (func_of loaded.now func).name }
 {
-    match loaded.interface.funcs.as_slice().get(func as usize) {
+    match funcs_of(loaded).get(func as usize) {
         Some(func) => func.name.as_slice(),
         None => &[],
     }

@@ -5,7 +5,7 @@ use Rattle.std.specs.List.{AllByRecursion}
 use Rattle.std.proofs.lemmas.Bool.{leb-true, le-leb, cond-true}
 use Rattle.std.proofs.lemmas.Option.{cond_some}
 use Rattle.script_text.specs.declared.script.ScriptText.{ScriptText as ScriptStruct}
-use Rattle.script_text.specs.TextLimits.{MAX_FILE}
+use Rattle.tars_base.specs.Limits.{MAX_FILE}
 use Rattle.script_text.specs.ScriptText.{EventText, ObjectText, ScriptText, object_id, client_line, interface_header, object_line, servant_line, event_line, script_lines, script_text, is_host_byte, IsObject, IsEvent, is_call, IsScriptText}
 use Rattle.script_text.specs.TextLimits.{MAX_LINE, MAX_CALLS}
 use Rattle.script_text.specs.ScriptText as script

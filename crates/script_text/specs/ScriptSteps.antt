@@ -10,7 +10,8 @@ use Rattle.script_text.specs.declared.script.header.InterfaceName.{InterfaceName
 use Rattle.script_text.specs.declared.script.header.RuleText.{RuleText}
 use Rattle.script_text.specs.NumberSteps.{natural_within, number}
 use Rattle.script_text.specs.Reading.{EventValue, event_of, call, serve, work, deliver, close}
-use Rattle.script_text.specs.TextLimits.{MAX_FILE, MAX_LINE, MAX_CALLS, MAX_PORT, MAX_TIMEOUT}
+use Rattle.script_text.specs.TextLimits.{MAX_LINE, MAX_CALLS, MAX_PORT, MAX_TIMEOUT}
+use Rattle.tars_base.specs.Limits.{MAX_FILE}
 use Rattle.script_text.specs.ScriptText.{is_part_byte, is_host_byte}
 use Rattle.facts.specs.OptionSteps.{◌>>=◌}
 use Rattle.script_text.specs.ScanSteps.{Whole, Prefix, tested, skip, before, within, ◌&◌, ◌&>◌, name, name_before, utf8}

@@ -2,7 +2,8 @@
 use Rattle.std.specs.Prelude.{◌≡◌, ◌≤◌, ℕ, Bool, true, false, ◌||◌, ◌==◌, not, ◌⊎◌, List, ◌∷◌, ◌++◌, length, map, count_by, codes, IsUtf8}
 use Rattle.std.specs.List.{list_all, flat_map, AllByRecursion}
 use Rattle.script_text.specs.Words.{is_letter, is_digit, IsName, is_number, IsNaturalWithin}
-use Rattle.script_text.specs.TextLimits.{MAX_FILE, MAX_LINE, MAX_CALLS, MAX_PORT, MAX_TIMEOUT}
+use Rattle.script_text.specs.TextLimits.{MAX_LINE, MAX_CALLS, MAX_PORT, MAX_TIMEOUT}
+use Rattle.tars_base.specs.Limits.{MAX_FILE}
 
 -- an event, as its line says it; the numbers of a call are texts
 pub data EventText : Type 0 where

@@ -1,9 +1,5 @@
--- How long the files, lines, names and numbers of a script may be (docs/SCRIPTS.md, "Accepted scripts").
+-- How long the lines, names and numbers of a script may be (docs/SCRIPTS.md, "Accepted scripts").
 use Rattle.std.specs.Prelude.{ℕ}
-
--- the bytes of a file, a script or an interface file
-abbrev pub MAX_FILE : ℕ
-MAX_FILE = 1048576
 
 -- the bytes of a line, without its line feed
 abbrev pub MAX_LINE : ℕ

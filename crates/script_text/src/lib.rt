@@ -8,5 +8,4 @@
 mod scan;
 mod script;
 
-pub use scan::MAX_FILE;
 pub use script::{EventText, ObjectText, ScriptText, read_script};

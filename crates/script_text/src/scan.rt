@@ -9,9 +9,6 @@ ghost use Rattle.script_text.specs.ScanSteps.{name, name_before, utf8};
 use idl_parse::Keyword;
 use std::str;
 
-/// The longest file that is read, in bytes.
-pub const MAX_FILE: usize = 1_048_576;
-
 /// The longest name, in bytes.
 const MAX_NAME: usize = 32;
 

@@ -7,8 +7,8 @@ ghost use Rattle.script_text.specs.ScriptText.{IsScriptText};
 ghost use Rattle.script_text.specs.ScriptText as written;
 ghost use Rattle.script_text.specs.ScriptSteps.{header_of, script_of, script_at};
 
-use crate::scan::MAX_FILE;
 use std::alloc::{AllocError, Global};
+use tars_base::MAX_FILE;
 
 mod event;
 mod events;

@@ -1,10 +1,10 @@
 -- What loading gives, and that it gives no other answer.
-pub mod Interfaces
 pub mod Loaded
 pub mod Loading
-pub mod Names
 pub mod OneAnswer
+pub mod OneSchema
 pub mod OneScript
 pub mod OneSession
-pub mod OneVerdict
+pub mod Seen
 pub mod Sessions
+pub mod Targets

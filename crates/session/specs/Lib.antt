@@ -1,6 +1,6 @@
 pub mod Refusals
-pub mod InterfaceFile
-pub mod VerdictSteps
+pub mod SchemaLoading
+pub mod Agreement
 pub mod Bodies
 pub mod RpcPackets
 pub mod Services

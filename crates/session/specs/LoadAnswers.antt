@@ -1,32 +1,25 @@
--- What a call of loading returns, beside what loading gives (`specs/Loading.antt`).
-use Rattle.std.specs.Prelude.{◌≡◌, ℕ, List, Option, Some, None, Result, Ok, Err, IfSome}
-use Rattle.tars_base.specs.Contents.{Contents}
-use Rattle.tars_base.specs.declared.fault.ReadFault.{ReadFault}
-use Rattle.tars_base.specs.declared.fault.ReadFault.TheVariants as reads
+-- What a call of loading returns, beside what loading gives (`specs/Loading.antt` and `specs/SchemaLoading.antt`).
+use Rattle.std.specs.Prelude.{ℕ, List, Result, Ok, Err}
+use Rattle.session.specs.Loading.{Loads}
+use Rattle.session.specs.Loading as load
+use Rattle.session.specs.SchemaLoading.{LoadsSchema}
+use Rattle.session.specs.SchemaLoading as schema
 use Rattle.session.specs.declared.load_fault.LoadFault.{LoadFault}
 use Rattle.session.specs.declared.load_fault.LoadFault.TheVariants.{Refused, Read, Memory}
 use Rattle.session_model.specs.declared.loaded.Loaded.{Loaded}
-use Rattle.session.specs.Loading.{LoadAnswer, loaded, refused, Loads}
+use Rattle.tars_base.specs.Contents.{Contents, Held, HoldsOnly}
+use Rattle.tars_model.specs.Declarations.{Declared}
 
--- what a fault of the files is to one who loads
-abbrev pub fault_of : ReadFault → LoadFault
-fault_of reads.Failed = Read
-fault_of reads.Memory = Memory
+-- a schema or a refusal is what loading the file gives, and nothing else is; a failed read and want of memory say nothing
+abbrev pub IsSchemaAnswered : Contents → List ℕ → Result Declared LoadFault → Type 0
+IsSchemaAnswered contents file (Ok d) = HoldsOnly (LoadsSchema contents file) (schema.declared d)
+IsSchemaAnswered contents file (Err (Refused line)) = HoldsOnly (LoadsSchema contents file) (schema.refused line)
+IsSchemaAnswered contents file (Err Read) = Unit {0}
+IsSchemaAnswered contents file (Err Memory) = Unit {0}
 
--- what was loaded or refused; a failed read and want of memory are no answer
-abbrev pub answer_of : Result Loaded LoadFault → Option LoadAnswer
-answer_of (Ok l) = Some (loaded l)
-answer_of (Err (Refused line)) = Some (refused line)
-answer_of (Err Read) = None
-answer_of (Err Memory) = None
-
--- where contents are told, loading gives what was returned
-abbrev pub IsGiven : Option Contents → List ℕ → Result Loaded LoadFault → Type 0
-IsGiven None script result = Unit {0}
-IsGiven (Some contents) script result = IfSome (answer_of result) (λ answer. Loads contents script answer)
-
--- where contents are told, loading gives nothing but what was returned
-abbrev pub IsOnlyGiven : Option Contents → List ℕ → Result Loaded LoadFault → Type 0
-IsOnlyGiven None script result = Unit {0}
-IsOnlyGiven (Some contents) script result =
-    IfSome (answer_of result) (λ answer. (other : LoadAnswer) → Loads contents script other → other ≡ answer)
+-- the same of a session or a refusal, and of what loading the script gives
+abbrev pub IsAnswered : Held → List ℕ → Result Loaded LoadFault → Type 0
+IsAnswered held script (Ok l) = HoldsOnly (Loads held script) (load.loaded l)
+IsAnswered held script (Err (Refused line)) = HoldsOnly (Loads held script) (load.refused line)
+IsAnswered held script (Err Read) = Unit {0}
+IsAnswered held script (Err Memory) = Unit {0}

@@ -1,10 +1,21 @@
--- For the proofs: what a refusal in src/loading.rt is, if there is memory for its line.
+-- For the proofs: what the functions of src/schema_loading.rt and src/loading.rt make of the errors of others.
 use Rattle.std.specs.Prelude.{◌≡◌, ℕ, List}
+use Rattle.idl_check.specs.declared.check_fault.CheckFault.{CheckFault}
+use Rattle.idl_check.specs.declared.check_fault.CheckFault.TheVariants as checks
+use Rattle.idl_load.specs.declared.files_fault.FilesFault.{FilesFault}
+use Rattle.idl_load.specs.declared.files_fault.FilesFault.TheVariants as files
+use Rattle.idl_parse.specs.Files.{File}
+use Rattle.session.specs.Refusals.{refusal_line, file_fault, rule_fault}
+use Rattle.session.specs.SchemaLoading.{name_at}
 use Rattle.session.specs.declared.load_fault.LoadFault.{LoadFault}
 use Rattle.session.specs.declared.load_fault.LoadFault.TheVariants.{Refused, Read, Memory}
-use Rattle.session.specs.declared.interface_fault.InterfaceFault.{InterfaceFault}
-use Rattle.session.specs.declared.interface_fault.InterfaceFault.TheVariants as interfaces
-use Rattle.session.specs.Refusals.{refusal_line, file_fault}
+use Rattle.tars_base.specs.declared.fault.ReadFault.{ReadFault}
+use Rattle.tars_base.specs.declared.fault.ReadFault.TheVariants as reads
+
+-- what a fault of the files is to one who loads
+abbrev pub fault_of : ReadFault → LoadFault
+fault_of reads.Failed = Read
+fault_of reads.Memory = Memory
 
 -- a fault refuses a text by this line, or tells that there was no memory for it
 abbrev pub IsRefusedBy : List ℕ → LoadFault → Type 0
@@ -12,7 +23,14 @@ IsRefusedBy line (Refused own) = own ≡ line
 IsRefusedBy line Read = ⊥
 IsRefusedBy line Memory = Unit {0}
 
--- a fault refuses an interface file for what is wrong with it, or tells that there was no memory
-abbrev pub IsFileRefusedBy : List ℕ → InterfaceFault → LoadFault → Type 0
-IsFileRefusedBy name (interfaces.Refused fault) answer = IsRefusedBy (refusal_line name (file_fault fault)) answer
-IsFileRefusedBy name interfaces.Memory answer = answer ≡ Memory
+-- what files that were not loaded are to one who loads their schema
+abbrev pub IsNotLoaded : FilesFault → LoadFault → Type 0
+IsNotLoaded (files.Refused name fault) answer = IsRefusedBy (refusal_line name (file_fault fault)) answer
+IsNotLoaded files.Read answer = answer ≡ Read
+IsNotLoaded files.Memory answer = answer ≡ Memory
+
+-- what files that break a rule are to one who loads their schema
+abbrev pub IsNotChecked : List File → CheckFault → LoadFault → Type 0
+IsNotChecked found (checks.Bad file at why) answer =
+    IsRefusedBy (refusal_line (name_at found file) (rule_fault (record { file = file; at = at; why = why }))) answer
+IsNotChecked found checks.Memory answer = answer ≡ Memory

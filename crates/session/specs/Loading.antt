@@ -1,67 +1,51 @@
--- What loading a script gives, where the contents of files are told (docs/SCRIPTS.md, "Loading").
-use Rattle.std.specs.Prelude.{◌≡◌, ℕ, ◌+◌, true, false, if◌then◌else◌, ◌⊎◌, Some, None, List, [], ◌∷◌}
-use Rattle.std.specs.List.{AllByRecursion}
+-- What loading a script gives (docs/SCRIPTS.md, "Loading").
+use Rattle.std.specs.Prelude.{◌≡◌, ℕ, ◌+◌, ◌<◌, ◌≤◌, length, true, false, if◌then◌else◌, Some, None, List, [], ◌∷◌}
 use Rattle.std.specs.Str.{bytes_eq}
 use Rattle.std.specs.Str.Parse.{digits_value}
-use Rattle.tars_base.specs.Contents.{Contents}
-use Rattle.tars_model.specs.declared.value.Value.{Value, Num}
+use Rattle.script_text.specs.ScriptText.{ScriptText, IsScriptText, EventText, call, serve, work, deliver, close, object_id}
+use Rattle.script_text.specs.Words.{number_of}
+use Rattle.session.specs.Agreement.{Target, Agree}
+use Rattle.session.specs.Refusals.{refusal_line, script_fault}
+use Rattle.session.specs.SchemaLoading.{LoadsSchema}
+use Rattle.session.specs.SchemaLoading as schema
+use Rattle.session.specs.declared.refused_text.ScriptFault.TheVariants.{TooLong, Form, Value as BadValue}
+use Rattle.session_model.specs.Sessions.{NODE}
 use Rattle.session_model.specs.declared.loaded.CallSpec.{CallSpec}
 use Rattle.session_model.specs.declared.loaded.Event.{Event}
 use Rattle.session_model.specs.declared.loaded.Event.TheVariants.{Call, Serve, Work, Deliver, Close}
 use Rattle.session_model.specs.declared.loaded.Loaded.{Loaded}
 use Rattle.session_model.specs.declared.loaded.Rule.TheVariants.{Add}
-use Rattle.session.specs.declared.interface_fault.FileFault.{FileFault}
-use Rattle.session.specs.declared.refused_text.ScriptFault.TheVariants.{Form, Value as BadValue}
-use Rattle.session.specs.InterfaceFile.{InterfaceText, IsJudged}
-use Rattle.session.specs.InterfaceFile as verdict
-use Rattle.session.specs.Refusals.{refusal_line, script_fault, file_fault}
-use Rattle.script_text.specs.ScriptText.{ScriptText, IsScriptText, EventText, call, serve, work, deliver, close, object_id}
-use Rattle.session_model.specs.Sessions.{NODE, func_of_two, interface_of_one}
-use Rattle.tars_model.specs.Ranges.{IsInt}
-use Rattle.script_text.specs.Words.{number_of}
+use Rattle.tars_base.specs.Contents.{Held}
+use Rattle.tars_base.specs.Limits.{MAX_FILE}
+use Rattle.tars_model.specs.Declarations.{Declared}
+use Rattle.tars_model.specs.declared.value.Value.{Value, Num}
 
--- What a script and an interface file have to agree on.
+-- What is loaded from a script and a schema that agree.
 
-abbrev pub IsParameter : InterfaceText → List ℕ → Type 0
-IsParameter i name = (name ≡ i.first) ⊎ (name ≡ i.second)
-
-abbrev pub IsEventOf : InterfaceText → EventText → Type 0
-IsEventOf i (call func a b) = (func ≡ i.func) × IsInt (number_of a) × IsInt (number_of b)
-IsEventOf i _ = Unit {0}
-
-pub record Agree (s : ScriptText) (i : InterfaceText) : Type 0 where
-  pub module_name : s.module_name ≡ i.module_name
-  pub interface : s.interface ≡ i.interface
-  pub func : s.func ≡ i.func
-  pub left : IsParameter i s.left
-  pub right : IsParameter i s.right
-  pub events : AllByRecursion (IsEventOf i) s.events
-
--- What is loaded from a script and an interface file that agree.
-
--- a call by the one line of the one function, which waits for its reply and has no key
-abbrev pub two_way_call : ℕ → List Value → CallSpec
-two_way_call n args =
-    record { call = n; line = 1; func = 0; two_way = true; begin = false; key = 0; args = args }
+-- a call of a function by the one line, which waits for its reply and has no key
+abbrev pub two_way_call : ℕ → ℕ → List Value → CallSpec
+two_way_call func n args =
+    record { call = n; line = 1; func = func; two_way = true; begin = false; key = 0; args = args }
 
 -- calls are numbered from a first number on; a read takes all that waits
-abbrev pub events_from : ℕ → List EventText → List Event
-events_from n [] = []
-events_from n (call func a b ∷ events) =
-    Call (two_way_call n (Num (number_of a) ∷ Num (number_of b) ∷ [])) ∷ events_from (n + 1) events
-events_from n (serve ∷ events) = Serve NODE None ∷ events_from n events
-events_from n (work ∷ events) = Work NODE ∷ events_from n events
-events_from n (deliver ∷ events) = Deliver NODE None ∷ events_from n events
-events_from n (close ∷ events) = Close ∷ events_from n events
+abbrev pub events_from : ℕ → ℕ → List EventText → List Event
+events_from func n [] = []
+events_from func n (call name a b ∷ events) =
+    Call (two_way_call func n (Num (number_of a) ∷ Num (number_of b) ∷ [])) ∷ events_from func (n + 1) events
+events_from func n (serve ∷ events) = Serve NODE None ∷ events_from func n events
+events_from func n (work ∷ events) = Work NODE ∷ events_from func n events
+events_from func n (deliver ∷ events) = Deliver NODE None ∷ events_from func n events
+events_from func n (close ∷ events) = Close ∷ events_from func n events
 
 -- the index of a parameter among the arguments
-abbrev pub index_of : InterfaceText → List ℕ → ℕ
-index_of i name = if bytes_eq name i.first then 0 else 1
+abbrev pub index_of : Target → List ℕ → ℕ
+index_of t name = if bytes_eq name t.first then 0 else 1
 
-abbrev pub loaded_of : ScriptText → InterfaceText → Loaded
-loaded_of s i =
+abbrev pub loaded_of : ScriptText → Declared → Target → Loaded
+loaded_of s d t =
     record {
-      interface = interface_of_one i.module_name i.interface (func_of_two i.func i.first i.second);
+      client = d;
+      client_interface = t.interface;
       object =
           record {
             id = object_id s.object;
@@ -73,8 +57,8 @@ loaded_of s i =
                 }
                 ∷ [];
           };
-      rules = record { func = 0; rule = Add (index_of i s.left) (index_of i s.right) } ∷ [];
-      events = events_from 1 s.events;
+      rules = record { func = t.func; rule = Add (index_of t s.left) (index_of t s.right) } ∷ [];
+      events = events_from t.func 1 s.events;
     }
 
 -- What loading gives: a session, a refusal line, or the name of a file that is needed and not there.
@@ -83,37 +67,39 @@ pub data LoadAnswer : Type 0 where
   refused : List ℕ → LoadAnswer
   unread : List ℕ → LoadAnswer
 
--- Loading a script gives this answer. The script is judged before its interface file is read, that file
--- before names and values.
-pub data Loads (contents : Contents) (script : List ℕ) : LoadAnswer → Type 0 where
-  no_script : contents script ≡ None → Loads contents script (unread script)
+-- Loading a script gives this answer. The script is judged before its interface file is read, that file with all that it
+-- includes before names and values. Files may change in between: the script is read of what they hold first, the
+-- interface file of what they hold then.
+pub data Loads (held : Held) (script : List ℕ) : LoadAnswer → Type 0 where
+  no_script : held 0 script ≡ None → Loads held script (unread script)
+  long_script :
+      (text : List ℕ) → held 0 script ≡ Some text → MAX_FILE < length text
+      → Loads held script (refused (refusal_line script (script_fault TooLong)))
   bad_script :
-      (text : List ℕ) → contents script ≡ Some text → ((s : ScriptText) → IsScriptText s text → ⊥)
-      → Loads contents script (refused (refusal_line script (script_fault Form)))
+      (text : List ℕ) → held 0 script ≡ Some text → length text ≤ MAX_FILE
+      → ((s : ScriptText) → IsScriptText s text → ⊥)
+      → Loads held script (refused (refusal_line script (script_fault Form)))
   no_interface :
-      (text : List ℕ) (s : ScriptText) → contents script ≡ Some text → IsScriptText s text
-      → contents s.client ≡ None
-      → Loads contents script (unread s.client)
+      (text file : List ℕ) (s : ScriptText) → held 0 script ≡ Some text → IsScriptText s text
+      → LoadsSchema (held 1) s.client (schema.unread file) → Loads held script (unread file)
   bad_interface :
-      (text file : List ℕ) (fault : FileFault) (s : ScriptText) → contents script ≡ Some text → IsScriptText s text
-      → contents s.client ≡ Some file → IsJudged file (verdict.refused fault)
-      → Loads contents script (refused (refusal_line s.client (file_fault fault)))
+      (text line : List ℕ) (s : ScriptText) → held 0 script ≡ Some text → IsScriptText s text
+      → LoadsSchema (held 1) s.client (schema.refused line) → Loads held script (refused line)
   bad_value :
-      (text file : List ℕ) (s : ScriptText) (i : InterfaceText) → contents script ≡ Some text → IsScriptText s text
-      → contents s.client ≡ Some file → IsJudged file (verdict.accepted i) → (Agree s i → ⊥)
-      → Loads contents script (refused (refusal_line script (script_fault BadValue)))
+      (text : List ℕ) (s : ScriptText) (d : Declared) → held 0 script ≡ Some text → IsScriptText s text
+      → LoadsSchema (held 1) s.client (schema.declared d) → ((t : Target) → Agree s d t → ⊥)
+      → Loads held script (refused (refusal_line script (script_fault BadValue)))
   session :
-      (text file : List ℕ) (s : ScriptText) (i : InterfaceText) → contents script ≡ Some text → IsScriptText s text
-      → contents s.client ≡ Some file → IsJudged file (verdict.accepted i) → Agree s i
-      → Loads contents script (loaded (loaded_of s i))
+      (text : List ℕ) (s : ScriptText) (d : Declared) (t : Target) → held 0 script ≡ Some text → IsScriptText s text
+      → LoadsSchema (held 1) s.client (schema.declared d) → Agree s d t
+      → Loads held script (loaded (loaded_of s d t))
 
--- a session that was loaded from texts that are accepted and agree
+-- a session that was loaded from a script that agrees with a schema
 pub record IsLoaded (l : Loaded) : Type 0 where
   pub script : ScriptText
-  pub interface : InterfaceText
-  pub script_bytes : List ℕ
-  pub interface_bytes : List ℕ
-  pub script_form : IsScriptText script script_bytes
-  pub interface_form : IsJudged interface_bytes (verdict.accepted interface)
-  pub agree : Agree script interface
-  pub is : l ≡ loaded_of script interface
+  pub bytes : List ℕ
+  pub client : Declared
+  pub target : Target
+  pub form : IsScriptText script bytes
+  pub agree : Agree script client target
+  pub is : l ≡ loaded_of script client target

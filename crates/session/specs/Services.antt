@@ -9,7 +9,7 @@ use Rattle.session.specs.declared.rpc_packet.request.Request.{Request}
 use Rattle.session.specs.declared.rpc_packet.response.Response.{Response}
 use Rattle.session.specs.RpcPackets.{MAX_TEXT, request_members, response_members, request_frame}
 use Rattle.session_model.specs.Replies.{Reply, sum, code, reply_by}
-use Rattle.session_model.specs.Sessions.{func_of, node_of, rule_of}
+use Rattle.session_model.specs.Sessions.{ruled_func, node_of, rule_of}
 use Rattle.tars_model.specs.Ranges.{IsInt}
 use Rattle.session_model.specs.declared.loaded.Event.{Event}
 use Rattle.session_model.specs.declared.loaded.Event.TheVariants.{Call}
@@ -30,12 +30,12 @@ unfoldable pub service_of : Loaded → Service
 service_of l =
     record {
       id = l.object.id;
-      func = (func_of l 0).name;
+      func = (ruled_func l).name;
       timeout = (node_of l).timeout;
       left = left_of (rule_of l);
       right = right_of (rule_of l);
-      arguments = arguments_of (func_of l 0);
-      reply = reply_members_of (func_of l 0);
+      arguments = arguments_of (ruled_func l);
+      reply = reply_members_of (ruled_func l);
       request = request_members;
       response = response_members;
     }

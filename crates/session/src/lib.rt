@@ -1,14 +1,14 @@
-//! Sessions: `load` reads a script and the interface file that it names, `run_plan` runs it with all its ends in memory,
-//! and `report_text` prints the report. Where files come from is left to the caller, through the trait `Files`.
+//! Sessions: `load_schema` reads an interface file with those that it includes, `load` a script with its interface file,
+//! `run_plan` runs it with all its ends in memory, and `report_text` prints the report. Where files come from is left to
+//! the caller, through the trait `Files`.
 //!
-//! Read `specs/Loading.antt` first, which says what loading gives, then `specs/Planned.antt` and `specs/Legal.antt`,
-//! which say what the report of a run is. The modules named `*Steps` follow the code's steps and are for the proofs.
+//! Read `specs/SchemaLoading.antt` and `specs/Loading.antt` first, which say what loading gives, then
+//! `specs/Planned.antt` and `specs/Legal.antt`, which say what the report of a run is. The modules named `*Steps` follow
+//! the code's steps and are for the proofs.
 #![tactic(auto)]
 
 mod bodies;
 mod call_state;
-mod interface_fault;
-mod interface_file;
 mod laws;
 mod load_fault;
 mod loading;
@@ -17,17 +17,18 @@ mod plan;
 mod refused_text;
 mod rpc_packet;
 mod run;
+mod schema_loading;
 mod servant_core;
 mod service;
 mod tars_frames;
 
-pub(crate) use interface_file::{InterfaceText, read_interface};
-pub use laws::one_answer;
+pub use laws::{one_answer, one_schema_answer};
 pub use load_fault::LoadFault;
 pub use loading::load;
 pub use mode::Mode;
 pub use report_lines::report_text;
 pub use run::run_plan;
+pub use schema_loading::load_schema;
 pub use session_model::{
     CallId, CallSpec, Cut, End, Endpoint, Event, FuncRule, GotFate, GotRow, LinkLog, Loaded,
     ObjectName, PickNote, Refusal, Report, RouteStep, Row, Rule, SentRow, Why,

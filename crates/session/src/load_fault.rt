@@ -1,12 +1,12 @@
 ghost use Rattle.std.specs.Prelude.{◌≡◌};
-ghost use Rattle.session.specs.LoadAnswers.{fault_of};
+ghost use Rattle.session.specs.LoadSteps.{fault_of};
 ghost use Rattle.session.specs.declared.load_fault.LoadFault.TheVariants.{Memory as no_memory};
 
 use std::alloc::AllocError;
 use tars_base::ReadFault;
 use tars_model::Bytes8;
 
-/// Why a script was not loaded.
+/// Why a script or an interface file was not loaded.
 #[derive(Drop)]
 pub enum LoadFault {
     /// A text that was read whole is refused, by this line.

@@ -1,12 +1,12 @@
 ghost use Rattle.std.specs.Prelude.{◌≡◌, ◌≤◌, length, IfOk};
 ghost use Rattle.session.specs.Loading.{IsLoaded};
 ghost use Rattle.session.specs.Services.{IsService, service_of};
-ghost use Rattle.session_model.specs.Sessions.{func_of as func_is, node_of as node_is, rule_of as rule_is};
+ghost use Rattle.session_model.specs.Sessions.{interface_of as interface_is, func_rule_of as func_rule_is, ruled_func, node_of as node_is};
 
 use crate::rpc_packet::{request_members, response_members};
-use crate::{Endpoint, Loaded, Rule};
+use crate::{Endpoint, FuncRule, Loaded, Rule};
 use std::alloc::{AllocError, Global};
-use tars_model::{FuncDesc, List, Member, Name, args_of, reply_of};
+use tars_model::{FuncDesc, InterfaceDesc, List, Member, Name, args_of, reply_of};
 
 /// The number of the one node.
 pub(crate) const NODE: u32 = 1;
@@ -30,13 +30,29 @@ pub(crate) struct Service {
     pub response: List<Member>,
 }
 
-/// The one function of the interface.
+/// The interface that the calls go to.
+fn interface_of(loaded: &Loaded) -> &InterfaceDesc
+    requires { IsLoaded loaded.now }
+    ensures { result.now ≡ interface_is loaded.now }
+{
+    &loaded.client.interfaces()[loaded.client_interface as usize]
+}
+
+fn func_rule_of(loaded: &Loaded) -> FuncRule
+    requires { IsLoaded loaded.now }
+    ensures { result ≡ func_rule_is loaded.now }
+{
+    loaded.rules.as_slice()[0]
+}
+
+/// The function that the calls are of.
 fn func_of(loaded: &Loaded) -> &FuncDesc
     requires { IsLoaded loaded.now }
-    ensures func { result.now ≡ func_is loaded.now 0 }
+    ensures func { result.now ≡ ruled_func loaded.now }
     ensures few { length result.now.params ≤ 2 }
 {
-    &loaded.interface.funcs.as_slice()[0]
+    let number = func_rule_of(loaded).func;
+    &interface_of(loaded).funcs.as_slice()[number as usize]
 }
 
 /// The one node of the object.
@@ -45,13 +61,6 @@ fn node_of(loaded: &Loaded) -> &Endpoint
     ensures { result.now ≡ node_is loaded.now }
 {
     &loaded.object.nodes.as_slice()[0]
-}
-
-fn rule_of(loaded: &Loaded) -> Rule
-    requires { IsLoaded loaded.now }
-    ensures { result ≡ rule_is loaded.now }
-{
-    loaded.rules.as_slice()[0].rule
 }
 
 impl Service {
@@ -63,7 +72,7 @@ impl Service {
         ensures sound { IfOk result (λ service. IsService service) }
     {
         let func = func_of(loaded);
-        let Rule::Add(left, right) = rule_of(loaded);
+        let Rule::Add(left, right) = func_rule_of(loaded).rule;
         Ok(Service {
             id: loaded.object.id.copy(alloc)?,
             func: func.name.copy(alloc)?,

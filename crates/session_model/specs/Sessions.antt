@@ -5,6 +5,7 @@ use Rattle.tars_model.specs.declared.func_desc.Param.{Param}
 use Rattle.tars_model.specs.declared.interface_desc.InterfaceDesc.{InterfaceDesc}
 use Rattle.tars_model.specs.declared.ty.Ty.{Int}
 use Rattle.session_model.specs.declared.loaded.Endpoint.{Endpoint}
+use Rattle.session_model.specs.declared.loaded.FuncRule.{FuncRule}
 use Rattle.session_model.specs.declared.loaded.Loaded.{Loaded}
 use Rattle.session_model.specs.declared.loaded.Rule.{Rule}
 use Rattle.session_model.specs.declared.loaded.Rule.TheVariants.{Add}
@@ -34,17 +35,23 @@ abbrev pub func_of_two : List ℕ → List ℕ → List ℕ → FuncDesc
 func_of_two func first second =
     record { name = func; ret = Some Int; params = int_param first ∷ int_param second ∷ [] }
 
--- an interface of this one function
-abbrev pub interface_of_one : List ℕ → List ℕ → FuncDesc → InterfaceDesc
-interface_of_one module_name name func = record { «module» = module_name; name = name; funcs = func ∷ [] }
+-- The parts of a loaded script: the interface, a function of it by its number, the node, and the servant's rule.
 
--- The parts of a loaded script: a function of its interface by its number, the node, and the rule.
+abbrev pub interface_of : Loaded → InterfaceDesc
+interface_of l = slice_index_or l.client.interfaces l.client_interface (record { «module» = []; name = []; funcs = [] })
 
 abbrev pub func_of : Loaded → ℕ → FuncDesc
-func_of l k = slice_index_or l.interface.funcs k (func_of_two [] [] [])
+func_of l k = slice_index_or (interface_of l).funcs k (func_of_two [] [] [])
 
 abbrev pub node_of : Loaded → Endpoint
 node_of l = slice_index_or l.object.nodes 0 (record { host = []; port = 0; timeout = 0 })
 
+abbrev pub func_rule_of : Loaded → FuncRule
+func_rule_of l = slice_index_or l.rules 0 (record { func = 0; rule = Add 0 0 })
+
 abbrev pub rule_of : Loaded → Rule
-rule_of l = (slice_index_or l.rules 0 (record { func = 0; rule = Add 0 0 })).rule
+rule_of l = (func_rule_of l).rule
+
+-- the function that has the rule
+abbrev pub ruled_func : Loaded → FuncDesc
+ruled_func l = func_of l (func_rule_of l).func

@@ -1,4 +1,4 @@
-use tars_model::{InterfaceDesc, List, Name, Value};
+use tars_model::{List, Name, Schema, Value};
 
 /// A node of an object: where it listens, and how long a call to it may take.
 #[derive(Drop)]
@@ -64,8 +64,10 @@ pub enum Event {
 /// A script with its interface, read and judged.
 #[derive(Drop)]
 pub struct Loaded {
-    /// What the caller and the servant speak.
-    pub interface: InterfaceDesc,
+    /// What the interface file declares.
+    pub client: Schema,
+    /// The number of the interface that the calls go to.
+    pub client_interface: u32,
     pub object: ObjectName,
     pub rules: List<FuncRule>,
     pub events: List<Event>,

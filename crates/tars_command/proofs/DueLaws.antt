@@ -1,119 +1,141 @@
--- What is due follows from what loading gives, and how a run ends from what is due.
-use Rattle.std.proofs.Common.{◌≡◌, ◌≢◌, ℕ, List, [], ◌∷◌, Option, Some, None, refl, sym, ap, subst, ◌∙◌, ◌⊎◌, inl, inr, codes}
-use Rattle.std.specs.Prelude.{Ok, Err}
-use Rattle.tars_base.specs.Contents.{Contents, HoldsOnly, IsToldOnly}
-use Rattle.tars_base.specs.declared.status.Status.{Status}
-use Rattle.tars_base.specs.declared.status.Status.TheVariants.{Done, Refused, Usage, ReadFault, WriteFault, Memory}
-use Rattle.session.specs.declared.load_fault.LoadFault.TheVariants as faults
-use Rattle.session_model.specs.declared.loaded.Loaded.{Loaded}
-use Rattle.session.specs.LoadAnswers.{IsGiven, IsOnlyGiven}
-use Rattle.session.specs.Loading as load
-use Rattle.session.specs.Loading.{LoadAnswer, Loads}
-use Rattle.session.specs.Planned.{planned}
+-- What is due follows from what loading gives, and it is one answer.
+use Rattle.std.proofs.Common.{◌≡◌, ℕ, List, Option, sym, ap, subst}
+use Rattle.std.specs.Prelude.{Result, Ok, Err, IsErr, IsErrAnd}
+use Rattle.std.specs.declared.vec.Vec.{Vec}
+use Rattle.canonical_text.specs.Canonical.{canonical}
 use Rattle.report_lines.specs.ReportText.{report_text_of}
-use Rattle.tars_command.specs.Words.{AskForPlan, AreNoForm}
-use Rattle.tars_command.specs.Due.{DueAnswer, usage, refused, unread, done, Due, no_form, plan_unread, plan_refused, plan_done}
-use Rattle.tars_command.specs.Runs.{WritesDue, EndsAsDue, MayEnd}
-use Rattle.tars_command.specs.RunSteps.{EndsWith}
+use Rattle.session.specs.LoadAnswers.{IsSchemaAnswered, IsAnswered}
+use Rattle.session.specs.Loading as load
+use Rattle.session.specs.Loading.{LoadAnswer, Loads, IsLoaded}
+use Rattle.session.specs.Planned.{planned}
+use Rattle.session.specs.SchemaLoading as schema
+use Rattle.session.specs.SchemaLoading.{SchemaAnswer, LoadsSchema}
+use Rattle.session.specs.declared.load_fault.LoadFault.{LoadFault}
+use Rattle.session.specs.declared.load_fault.LoadFault.TheVariants as faults
+use Rattle.session.proofs.CallerLemmas.{any_held, loads_loaded}
+use Rattle.session_model.specs.declared.loaded.Loaded.{Loaded}
+use Rattle.tars_base.specs.Contents.{Contents, Held, AreTold, IsHeld, HoldsOnly}
+use Rattle.tars_command.specs.Due.{DueAnswer, refused, unread, done, Due, no_form, check_unread, check_refused, check_done, plan_unread, plan_refused, plan_done}
+use Rattle.tars_command.specs.RunSteps.{IsDueAnswered}
+use Rattle.tars_command.specs.Words.{AskForCheck, AskForPlan}
+use Rattle.tars_command.proofs.WordLaws.{same_file, not_both}
+use Rattle.tars_model.specs.Declarations.{Declared}
 
--- the words ask for one script
-same_script : (words : List (List ℕ)) (a b : List ℕ) → AskForPlan words a → AskForPlan words b → b ≡ a
-same_script words a b first second = let same : codes "plan" ∷ b ∷ [] ≡ codes "plan" ∷ a ∷ [] = sym second.form ∙ first.form in cc
+-- ---- a file that is checked
 
--- what is due where loading gives this answer
+-- what is due where the file gives this
+abbrev pub due_by_schema : SchemaAnswer → DueAnswer
+due_by_schema (schema.declared d) = done (canonical d)
+due_by_schema (schema.refused line) = refused line
+due_by_schema (schema.unread name) = unread name
+
+check_given : (held : Held) (words : List (List ℕ)) (file : List ℕ) (answer : SchemaAnswer) → AskForCheck words file → LoadsSchema (held 0) file answer → Due held words (due_by_schema answer)
+check_given held words file (schema.declared d) ask given = check_done file d ask given
+check_given held words file (schema.refused line) ask given = check_refused file line ask given
+check_given held words file (schema.unread name) ask given = check_unread file name ask given
+
+check_only : (held : Held) (words : List (List ℕ)) (file : List ℕ) (answer : SchemaAnswer) → AskForCheck words file → HoldsOnly (LoadsSchema (held 0) file) answer
+    → (other : DueAnswer) → Due held words other → other ≡ due_by_schema answer
+check_only held words file answer ask one = by_row
+  where
+    same : (f : List ℕ) (x : SchemaAnswer) → AskForCheck words f → LoadsSchema (held 0) f x → due_by_schema x ≡ due_by_schema answer
+    same f x asked given = ap due_by_schema (one.only x (subst (λ (n : List ℕ). LoadsSchema (held 0) n x) (same_file _ words file f ask asked) given))
+
+    by_row : (other : DueAnswer) → Due held words other → other ≡ due_by_schema answer
+    by_row other (no_form none) = absurd ((none file).0 ask)
+    by_row other (check_unread f name asked given) = same f (schema.unread name) asked given
+    by_row other (check_refused f line asked given) = same f (schema.refused line) asked given
+    by_row other (check_done f d asked given) = same f (schema.declared d) asked given
+    by_row other (plan_unread s name asked given) = absurd (not_both words file s ask asked)
+    by_row other (plan_refused s line asked given) = absurd (not_both words file s ask asked)
+    by_row other (plan_done s l asked given) = absurd (not_both words file s ask asked)
+
+pub check_due : (held : Held) (words : List (List ℕ)) (file : List ℕ) (answer : SchemaAnswer) → AskForCheck words file → HoldsOnly (LoadsSchema (held 0) file) answer → HoldsOnly (Due held words) (due_by_schema answer)
+check_due held words file answer ask one = record { holds = check_given held words file answer ask one.holds; only = check_only held words file answer ask one }
+
+-- ---- a script that is run
+
 abbrev pub due_by : LoadAnswer → DueAnswer
 due_by (load.loaded l) = done (report_text_of l (planned l))
 due_by (load.refused line) = refused line
 due_by (load.unread name) = unread name
 
-due_given : (c : Contents) (words : List (List ℕ)) (script : List ℕ) (answer : LoadAnswer) → AskForPlan words script → Loads c script answer → Due c words (due_by answer)
-due_given c words script (load.loaded l) ask given = plan_done script l ask given
-due_given c words script (load.refused line) ask given = plan_refused script line ask given
-due_given c words script (load.unread name) ask given = plan_unread script name ask given
+plan_given : (held : Held) (words : List (List ℕ)) (script : List ℕ) (answer : LoadAnswer) → AskForPlan words script → Loads held script answer → Due held words (due_by answer)
+plan_given held words script (load.loaded l) ask given = plan_done script l ask given
+plan_given held words script (load.refused line) ask given = plan_refused script line ask given
+plan_given held words script (load.unread name) ask given = plan_unread script name ask given
 
-due_only : (c : Contents) (words : List (List ℕ)) (script : List ℕ) (answer : LoadAnswer) → AskForPlan words script → ((other : LoadAnswer) → Loads c script other → other ≡ answer)
-    → (other : DueAnswer) → Due c words other → other ≡ due_by answer
-due_only c words script answer ask only other (no_form none) = absurd (none script ask)
-due_only c words script answer ask only other (plan_unread s name asked given) =
-    ap due_by (only (load.unread name) (subst (λ (s : List ℕ). Loads c s (load.unread name)) (same_script words script s ask asked) given))
-due_only c words script answer ask only other (plan_refused s line asked given) =
-    ap due_by (only (load.refused line) (subst (λ (s : List ℕ). Loads c s (load.refused line)) (same_script words script s ask asked) given))
-due_only c words script answer ask only other (plan_done s l asked given) =
-    ap due_by (only (load.loaded l) (subst (λ (s : List ℕ). Loads c s (load.loaded l)) (same_script words script s ask asked) given))
-
-pub due_exactly : (c : Contents) (words : List (List ℕ)) (script : List ℕ) (answer : LoadAnswer) → AskForPlan words script → Loads c script answer → ((other : LoadAnswer) → Loads c script other → other ≡ answer)
-    → HoldsOnly (Due c words) (due_by answer)
-due_exactly c words script answer ask given only = record { holds = due_given c words script answer ask given; only = due_only c words script answer ask only }
-
-abbrev pub IsExact : Option Contents → List (List ℕ) → DueAnswer → Type 0
-IsExact told words = IsToldOnly told (λ contents. Due contents words)
-
--- the text of a session that was loaded
-pub due_done : (told : Option Contents) (words : List (List ℕ)) (script text : List ℕ) (l : Loaded) → AskForPlan words script → IsGiven told script (Ok l) → IsOnlyGiven told script (Ok l)
-    → text ≡ report_text_of l (planned l) → IsExact told words (done text)
-due_done None words script text l ask given only is = tt
-due_done (Some c) words script text l ask given only is =
-    subst (λ (t : List ℕ). HoldsOnly (Due c words) (done t)) (sym is) (due_exactly c words script (load.loaded l) ask given only)
-
--- the line of a refusal
-pub due_refused : (told : Option Contents) (words : List (List ℕ)) (script line : List ℕ) → AskForPlan words script → IsGiven told script (Err (faults.Refused line)) → IsOnlyGiven told script (Err (faults.Refused line))
-    → IsExact told words (refused line)
-due_refused None words script line ask given only = tt
-due_refused (Some c) words script line ask given only = due_exactly c words script (load.refused line) ask given only
-
--- ---- the ends of a run
-
-pub usage_ends : (told : Option Contents) (words : List (List ℕ)) → AreNoForm words → EndsAsDue told words Usage
-usage_ends None words none = tt
-usage_ends (Some c) words none = by_row
+plan_only : (held : Held) (words : List (List ℕ)) (script : List ℕ) (answer : LoadAnswer) → AskForPlan words script → HoldsOnly (Loads held script) answer
+    → (other : DueAnswer) → Due held words other → other ≡ due_by answer
+plan_only held words script answer ask one = by_row
   where
-    by_row : (answer : DueAnswer) → Due c words answer → MayEnd answer Usage
-    by_row answer (no_form none) = tt
-    by_row answer (plan_unread s name ask given) = none s ask
-    by_row answer (plan_refused s line ask given) = none s ask
-    by_row answer (plan_done s l ask given) = none s ask
+    same : (s : List ℕ) (x : LoadAnswer) → AskForPlan words s → Loads held s x → due_by x ≡ due_by answer
+    same s x asked given = ap due_by (one.only x (subst (λ (n : List ℕ). Loads held n x) (same_file _ words script s ask asked) given))
 
-pub done_writes : (told : Option Contents) (words : List (List ℕ)) (text : List ℕ) (old new : Option (List ℕ)) (status : Status) → IsExact told words (done text) → EndsWith old new text Done status → WritesDue told words old new status
-done_writes None words text old new status exact ends = tt
-done_writes (Some c) words text old new status exact (inl all) = subst (λ (s : Status). WritesDue (Some c) words old new s) (sym all.0) (text, exact.holds, all.1)
-done_writes (Some c) words text old new status exact (inr prefix) = subst (λ (s : Status). WritesDue (Some c) words old new s) (sym prefix.0) (text, inl exact.holds, prefix.1)
+    by_row : (other : DueAnswer) → Due held words other → other ≡ due_by answer
+    by_row other (no_form none) = absurd ((none script).1 ask)
+    by_row other (check_unread f name asked given) = absurd (not_both words f script asked ask)
+    by_row other (check_refused f line asked given) = absurd (not_both words f script asked ask)
+    by_row other (check_done f d asked given) = absurd (not_both words f script asked ask)
+    by_row other (plan_unread s name asked given) = same s (load.unread name) asked given
+    by_row other (plan_refused s line asked given) = same s (load.refused line) asked given
+    by_row other (plan_done s l asked given) = same s (load.loaded l) asked given
 
-pub refused_writes : (told : Option Contents) (words : List (List ℕ)) (line : List ℕ) (old new : Option (List ℕ)) (status : Status) → IsExact told words (refused line) → EndsWith old new line Refused status → WritesDue told words old new status
-refused_writes None words line old new status exact ends = tt
-refused_writes (Some c) words line old new status exact (inl all) = subst (λ (s : Status). WritesDue (Some c) words old new s) (sym all.0) (line, exact.holds, all.1)
-refused_writes (Some c) words line old new status exact (inr prefix) = subst (λ (s : Status). WritesDue (Some c) words old new s) (sym prefix.0) (line, inr exact.holds, prefix.1)
+pub plan_due : (held : Held) (words : List (List ℕ)) (script : List ℕ) (answer : LoadAnswer) → AskForPlan words script → HoldsOnly (Loads held script) answer → HoldsOnly (Due held words) (due_by answer)
+plan_due held words script answer ask one = record { holds = plan_given held words script answer ask one.holds; only = plan_only held words script answer ask one }
 
--- an end that this may have, when nothing else is due
-only_ends : (c : Contents) (words : List (List ℕ)) (answer : DueAnswer) (status end : Status) → HoldsOnly (Due c words) answer → status ≡ end → MayEnd answer end → EndsAsDue (Some c) words status
-only_ends c words answer status end exact is may = λ other due.
-    subst (λ (a : DueAnswer). MayEnd a status) (sym (exact.only other due)) (subst (λ (s : Status). MayEnd answer s) (sym is) may)
+-- ---- what is returned of it
 
-pub done_ends : (told : Option Contents) (words : List (List ℕ)) (text : List ℕ) (old new : Option (List ℕ)) (status : Status) → IsExact told words (done text) → EndsWith old new text Done status → EndsAsDue told words status
-done_ends None words text old new status exact ends = tt
-done_ends (Some c) words text old new status exact (inl all) = only_ends c words (done text) status Done exact all.0 tt
-done_ends (Some c) words text old new status exact (inr prefix) = only_ends c words (done text) status WriteFault exact prefix.0 tt
+abbrev pub ForDue : {A : Type 0} → Option Contents → List (List ℕ) → Result (Vec ℕ A) LoadFault → Type 0
+ForDue told words result = (held : Held) × IsHeld told held × IsDueAnswered held words result
 
-pub refused_ends : (told : Option Contents) (words : List (List ℕ)) (line : List ℕ) (old new : Option (List ℕ)) (status : Status) → IsExact told words (refused line) → EndsWith old new line Refused status → EndsAsDue told words status
-refused_ends None words line old new status exact ends = tt
-refused_ends (Some c) words line old new status exact (inl all) = only_ends c words (refused line) status Refused exact all.0 tt
-refused_ends (Some c) words line old new status exact (inr prefix) = only_ends c words (refused line) status WriteFault exact prefix.0 tt
+abbrev pub ForSchema : Option Contents → List ℕ → Result Declared LoadFault → Type 0
+ForSchema told file result = (seen : Contents) × AreTold told seen × IsSchemaAnswered seen file result
 
--- a failed read and want of memory come only where the words are a command
-pub asked_ends : (told : Option Contents) (words : List (List ℕ)) (script : List ℕ) (status : Status) → AskForPlan words script → (status ≡ ReadFault) ⊎ (status ≡ Memory) → EndsAsDue told words status
-asked_ends None words script status ask is = tt
-asked_ends (Some c) words script status ask is = by_row
-  where
-    may_end : (answer : DueAnswer) → answer ≢ usage → (status ≡ ReadFault) ⊎ (status ≡ Memory) → MayEnd answer status
-    may_end usage other is = absurd (other refl)
-    may_end (refused line) other (inl is) = rw is tt
-    may_end (refused line) other (inr is) = rw is tt
-    may_end (unread name) other (inl is) = rw is tt
-    may_end (unread name) other (inr is) = rw is tt
-    may_end (done text) other (inl is) = rw is tt
-    may_end (done text) other (inr is) = rw is tt
+abbrev pub ForScript : Option Contents → List ℕ → Result Loaded LoadFault → Type 0
+ForScript told script result = (held : Held) × IsHeld told held × IsAnswered held script result
 
-    by_row : (answer : DueAnswer) → Due c words answer → MayEnd answer status
-    by_row answer (no_form none) = absurd (none script ask)
-    by_row answer (plan_unread s name asked given) = may_end (unread name) (λ e. cc) is
-    by_row answer (plan_refused s line asked given) = may_end (refused line) (λ e. cc) is
-    by_row answer (plan_done s l asked given) = may_end (done (report_text_of l (planned l))) (λ e. cc) is
+-- the files hold this all the time
+abbrev always : Contents → Held
+always contents step = contents
+
+module _ (A : Type 0) (told : Option Contents) (words : List (List ℕ)) where
+  abbrev Returned : Result (Vec ℕ A) LoadFault → Type 0
+  Returned result = ForDue told words result
+
+  by_error : (fault : LoadFault) (result : Result (Vec ℕ A) LoadFault) → IsErr result × IsErrAnd result (λ x. x ≡ fault) → Returned (Err fault) → Returned result
+  by_error fault (Ok text) is says = absurd (cc (is.0))
+  by_error fault (Err own) is says = subst (λ (f : LoadFault). Returned (Err f)) (sym is.1) says
+
+  pub no_memory : (result : Result (Vec ℕ A) LoadFault) → IsErr result × IsErrAnd result (λ x. x ≡ faults.Memory) → Returned result
+  no_memory result is = let any = any_held told in by_error faults.Memory result is (any.0, any.1, tt)
+
+  module _ (file : List ℕ) (ask : AskForCheck words file) where
+    check_fault : (fault : LoadFault) → ForSchema told file (Err fault) → Returned (Err fault)
+    check_fault (faults.Refused line) given = (always given.0, (λ step. given.1), check_due (always given.0) words file (schema.refused line) ask given.2)
+    check_fault faults.Read given = (always given.0, (λ step. given.1), tt)
+    check_fault faults.Memory given = (always given.0, (λ step. given.1), tt)
+
+    pub check_failed : (fault : LoadFault) (result : Result (Vec ℕ A) LoadFault) → IsErr result × IsErrAnd result (λ x. x ≡ fault) → ForSchema told file (Err fault) → Returned result
+    check_failed fault result is given = by_error fault result is (check_fault fault given)
+
+    pub check_printed : (d : Declared) (text : Vec ℕ A) → ForSchema told file (Ok d) → text.items ≡ canonical d → Returned (Ok text)
+    check_printed d text given is =
+        (always given.0, (λ step. given.1), subst (λ (t : List ℕ). HoldsOnly (Due (always given.0) words) (done t)) (sym is) (check_due (always given.0) words file (schema.declared d) ask given.2))
+
+  module _ (script : List ℕ) (ask : AskForPlan words script) where
+    plan_fault : (fault : LoadFault) → ForScript told script (Err fault) → Returned (Err fault)
+    plan_fault (faults.Refused line) given = (given.0, given.1, plan_due given.0 words script (load.refused line) ask given.2)
+    plan_fault faults.Read given = (given.0, given.1, tt)
+    plan_fault faults.Memory given = (given.0, given.1, tt)
+
+    pub plan_failed : (fault : LoadFault) (result : Result (Vec ℕ A) LoadFault) → IsErr result × IsErrAnd result (λ x. x ≡ fault) → ForScript told script (Err fault) → Returned result
+    plan_failed fault result is given = by_error fault result is (plan_fault fault given)
+
+    pub plan_printed : (l : Loaded) (text : Vec ℕ A) → ForScript told script (Ok l) → text.items ≡ report_text_of l (planned l) → Returned (Ok text)
+    plan_printed l text given is =
+        (given.0, given.1, subst (λ (t : List ℕ). HoldsOnly (Due given.0 words) (done t)) (sym is) (plan_due given.0 words script (load.loaded l) ask given.2))
+
+-- a script that is loaded can be run
+pub is_loaded : (told : Option Contents) (script : List ℕ) (l : Loaded) → ForScript told script (Ok l) → IsLoaded l
+is_loaded told script l given = loads_loaded given.0 script l given.2.holds

@@ -1,3 +1,4 @@
 pub mod DueLaws
+pub mod RunLaws
 pub mod WordLaws
 pub mod OneDue

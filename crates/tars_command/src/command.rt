@@ -1,20 +1,32 @@
 //! A run over files and a sink. What it should do is said by `specs/Due.antt`.
 
-ghost use Rattle.std.specs.Prelude.{◌≡◌, ◌≢◌, ◌↔◌, ℕ, List, map, string_bytes, IfOk, IfSome};
+ghost use Rattle.std.specs.Prelude.{◌≡◌, ◌≢◌, ◌↔◌, ℕ, List, map, string_bytes, IfOk};
 ghost use Rattle.session.specs.Loading.{IsLoaded};
 ghost use Rattle.session.specs.Planned.{planned};
 ghost use Rattle.report_lines.specs.ReportText.{report_text_of};
 ghost use Rattle.tars_base.specs.Causes.{HasCauseOf, Rose};
-ghost use Rattle.tars_base.specs.Contents.{IsToldOnly};
-ghost use Rattle.tars_command.specs.Due.{Due};
-ghost use Rattle.tars_command.specs.Words.{AskForPlan, AreNoForm};
-ghost use Rattle.tars_command.specs.Runs.{WritesDue, EndsAsDue, PrintsSession, KeepsQuiet};
-ghost use Rattle.tars_command.specs.RunSteps.{due_of, IsSessionText, EndsWith};
+ghost use Rattle.tars_base.specs.Contents.{Held, IsHeld};
+ghost use Rattle.tars_command.specs.Words.{AskForCheck, AskForPlan, AreNoForm};
+ghost use Rattle.tars_command.specs.WordSteps.{asked_by, AreAsked};
+ghost use Rattle.tars_command.specs.Runs.{WritesDue, EndsAsDue, KeepsQuiet};
+ghost use Rattle.tars_command.specs.RunSteps.{IsDueAnswered, EndsWith};
 
-use crate::words::planned_script;
-use session::{LoadFault, Loaded, Mode, load, report_text, run_plan};
+use crate::words::{Request, request_of};
+use idl_check::print;
+use session::{LoadFault, Loaded, Mode, load, load_schema, report_text, run_plan};
 use std::alloc::{AllocError, Global};
 use tars_base::{Failed, Files, Sink, Status, write_all};
+
+/// What `check FILE` prints.
+fn check_text<F: Files>(alloc: Global, files: &mut F, file: &str) -> Result<Vec<u8>, LoadFault>
+    ensures exact { (words : List (List ℕ)) → AskForCheck words file.now
+        → (held : Held) × IsHeld (F.contents files.old) held × IsDueAnswered held words result }
+    ensures same { F.contents files.new ≡ F.contents files.old }
+    ensures cause { HasCauseOf LoadFault.Read (F.faults files.old) (F.faults files.new) result }
+{
+    let schema = load_schema(alloc, files, file)?;
+    Ok(print(alloc, &schema)?)
+}
 
 /// The report of a session, as it is printed.
 fn session_text(alloc: Global, loaded: &Loaded) -> Result<Vec<u8>, AllocError>
@@ -26,16 +38,27 @@ fn session_text(alloc: Global, loaded: &Loaded) -> Result<Vec<u8>, AllocError>
 }
 
 /// What `plan SCRIPT` prints.
-#[tactic(auto, using(crate::proofs::DueLaws::due_done, crate::proofs::DueLaws::due_refused))]
 fn plan_text<F: Files>(alloc: Global, files: &mut F, script: &str) -> Result<Vec<u8>, LoadFault>
-    ensures sound { IfOk result (λ text. IsSessionText text.items) }
     ensures exact { (words : List (List ℕ)) → AskForPlan words script.now
-        → IfSome (due_of result) (λ a. IsToldOnly (F.contents files.old) (λ contents. Due contents words) a) }
+        → (held : Held) × IsHeld (F.contents files.old) held × IsDueAnswered held words result }
     ensures same { F.contents files.new ≡ F.contents files.old }
     ensures cause { HasCauseOf LoadFault.Read (F.faults files.old) (F.faults files.new) result }
 {
     let loaded = load(alloc, files, script, Mode::Plan)?;
     Ok(session_text(alloc, &loaded)?)
+}
+
+/// What a request prints.
+fn text_of<F: Files>(alloc: Global, files: &mut F, request: Request) -> Result<Vec<u8>, LoadFault>
+    ensures exact { (words : List (List ℕ)) → AreAsked words (asked_by request.entry)
+        → (held : Held) × IsHeld (F.contents files.old) held × IsDueAnswered held words result }
+    ensures same { F.contents files.new ≡ F.contents files.old }
+    ensures cause { HasCauseOf LoadFault.Read (F.faults files.old) (F.faults files.new) result }
+{
+    match request {
+        Request::Check(file) => check_text(alloc, files, file),
+        Request::Plan(script) => plan_text(alloc, files, script),
+    }
 }
 
 /// Writes a text, and returns how the run ends: as it is meant to, if all was written.
@@ -53,13 +76,12 @@ fn end_with<S: Sink>(out: &mut S, text: &[u8], meant: Status) -> Status
 
 /// Carries out what the words ask for. The whole text is made before its first byte is written.
 pub fn run<F: Files, S: Sink>(alloc: Global, words: &[String], files: &mut F, out: &mut S) -> Status
-    // Where the files are told, what is due is written, and the run ends as it may for that.
-    ensures due { WritesDue (F.contents files.old) (map string_bytes words.now)
-        (S.written out.old) (S.written out.new) result }
-    ensures only { EndsAsDue (F.contents files.old) (map string_bytes words.now) result }
-    // Whether they are told or not.
+    // By what the files held while they were read, which is what they are told to hold where that is told: what is due
+    // is written, and the run ends as it may for that.
+    ensures due { (held : Held) × IsHeld (F.contents files.old) held
+        × WritesDue held (map string_bytes words.now) (S.written out.old) (S.written out.new) result
+        × EndsAsDue held (map string_bytes words.now) result }
     ensures usage { (result ≡ Status.Usage) ↔ AreNoForm (map string_bytes words.now) }
-    ensures sound { PrintsSession (S.written out.old) (S.written out.new) result }
     ensures quiet { KeepsQuiet (S.written out.old) (S.written out.new) result }
     ensures same { F.contents files.new ≡ F.contents files.old }
     // The causes of the faults. A count rises in no other run.
@@ -69,10 +91,10 @@ pub fn run<F: Files, S: Sink>(alloc: Global, words: &[String], files: &mut F, ou
     ensures no_write { result ≢ Status.WriteFault → S.faults out.new ≡ S.faults out.old }
     ensures net { result ≢ Status.NetFault }
 {
-    let Some(script) = planned_script(words) else {
+    let Some(request) = request_of(words) else {
         return Status::Usage;
     };
-    match plan_text(alloc, files, script) {
+    match text_of(alloc, files, request) {
         Ok(text) => end_with(out, &text, Status::Done),
         Err(LoadFault::Refused { line }) => end_with(out, line.as_slice(), Status::Refused),
         Err(LoadFault::Read) => Status::ReadFault,

@@ -1,12 +1,12 @@
-//! What holds of commands, whatever the files are.
+//! What holds of commands, whatever the files hold.
 
 ghost use Rattle.std.specs.Prelude.{◌≡◌, ℕ, List};
-ghost use Rattle.tars_base.specs.Contents.{Contents};
+ghost use Rattle.tars_base.specs.Contents.{Held};
 ghost use Rattle.tars_command.specs.Due.{DueAnswer, Due};
 
-/// Whatever words and files there are, one answer is due, and no other.
+/// Whatever the words are and the files hold, one answer is due, and no other.
 pub fn one_due_answer()
-    ensures some { (files : Contents) (words : List (List ℕ)) → (answer : DueAnswer) × Due files words answer }
-    ensures only { (files : Contents) (words : List (List ℕ)) (a b : DueAnswer) → Due files words a
-        → Due files words b → a ≡ b }
+    ensures some { (held : Held) (words : List (List ℕ)) → (answer : DueAnswer) × Due held words answer }
+    ensures only { (held : Held) (words : List (List ℕ)) (a b : DueAnswer) → Due held words a
+        → Due held words b → a ≡ b }
 {}

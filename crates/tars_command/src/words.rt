@@ -1,8 +1,9 @@
 //! The words of the command line, which `specs/Words.antt` says, and the line of usage.
 
 ghost use Rattle.std.specs.Prelude.{◌≡◌, map, option_copied, string_bytes, MatchOption};
-ghost use Rattle.tars_command.specs.Words.{AskForPlan, AreNoForm, is_word, error_line_of};
-ghost use Rattle.tars_command.specs.WordSteps.{script_in};
+ghost use Rattle.std.specs.Option.{option_map};
+ghost use Rattle.tars_command.specs.Words.{AreNoForm, is_word, error_line_of};
+ghost use Rattle.tars_command.specs.WordSteps.{asked_by, asked_of, asked_in, AreAsked};
 
 use tars_base::Status;
 
@@ -26,22 +27,40 @@ pub fn error_line(status: Status) -> Option<&'static str>
     }
 }
 
-fn script_in(words: &[String]) -> Option<&str>
-    ensures { option_copied result ≡ script_in string_bytes words.now }
+/// What the words ask for, and of which file.
+#[derive(Clone, Copy)]
+pub enum Request<'a> {
+    /// `check FILE`
+    Check(&'a str),
+    /// `plan SCRIPT`
+    Plan(&'a str),
+}
+
+/// What a command asks for of a file.
+#[tactic(auto, unfolding(crate::specs::WordSteps::asked_of))]
+fn asked_of<'a>(command: &str, file: &'a str) -> Option<Request<'a>>
+    ensures { option_map asked_by result ≡ asked_of command.now file.now }
 {
-    match words {
-        [verb, script] if verb.as_str() == "plan" && is_word(script.as_str()) => {
-            Some(script.as_str())
-        }
+    match command {
+        "check" => Some(Request::Check(file)),
+        "plan" => Some(Request::Plan(file)),
         _ => None,
     }
 }
 
-/// The script of the words `plan SCRIPT`.
-#[tactic(auto, using(crate::proofs::WordLaws::planned_script_is))]
-pub fn planned_script(words: &[String]) -> Option<&str>
-    ensures { let texts = map string_bytes words.now in
-        MatchOption result (AreNoForm texts) (λ script. AskForPlan texts script.now) }
+fn asked_in(words: &[String]) -> Option<Request<'_>>
+    ensures { option_map asked_by result ≡ asked_in string_bytes words.now }
 {
-    script_in(words)
+    match words {
+        [command, file] if is_word(file.as_str()) => asked_of(command.as_str(), file.as_str()),
+        _ => None,
+    }
+}
+
+/// What the words ask for, if they are a form of a command.
+pub fn request_of(words: &[String]) -> Option<Request<'_>>
+    ensures { let texts = map string_bytes words.now in
+        MatchOption result (AreNoForm texts) (λ request. AreAsked texts (asked_by request)) }
+{
+    asked_in(words)
 }

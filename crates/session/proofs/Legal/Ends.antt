@@ -12,7 +12,7 @@ use Rattle.session_model.specs.declared.report.Refusal.{Refusal}
 use Rattle.session_model.specs.declared.report.Refusal.TheVariants as refusal
 use Rattle.session.specs.declared.service.Service.{Service}
 use Rattle.session.specs.Courses.{Opened, outcome}
-use Rattle.session_model.specs.Sessions.{WIDTH, live_node}
+use Rattle.session_model.specs.Sessions.{WIDTH, live_node, func_rule_of}
 use Rattle.session.specs.Planned.{row_of, sent_row, picked_step, reported_step}
 use Rattle.session.specs.Services.{reply_to, service_of}
 use Rattle.session_model.specs.Replies.{Reply, sum, code}
@@ -106,13 +106,13 @@ map_at f [] k x e = absurd (cc)
 map_at f (y ∷ xs) zero x e = ap (λ z. Some (f z)) (some_is y x e)
 map_at f (y ∷ xs) (suc k) x e = map_at f xs k x e
 
-sent_as : (l : Loaded) (os : List Opened) (n : ℕ) (x : Scripted) (id : CallId) → x.spec.func ≡ 0 → Some (record { 0 = n + 1 }) ≡ Some id
+sent_as : (l : Loaded) (os : List Opened) (n : ℕ) (x : Scripted) (id : CallId) → x.spec.func ≡ (func_rule_of l).func → Some (record { 0 = n + 1 }) ≡ Some id
     → slice_get os n ≡ Some (opened_as x (n + 1)) → IsSentAs l (map (sent_row (service_of l)) os) x.spec id
 unfolding service_of
 sent_as l os n x id first e own =
     rw (sym (some_is (record { 0 = n + 1 }) id e)) (n, refl, rw first (map_at (sent_row (service_of l)) os n (opened_as x (n + 1)) own))
 
-pub sent_exactly : (l : Loaded) (os : List Opened) (n : ℕ) (x : Scripted) (id : CallId) {fate : Option GotFate} {call : CallState} → x.spec.func ≡ 0
+pub sent_exactly : (l : Loaded) (os : List Opened) (n : ℕ) (x : Scripted) (id : CallId) {fate : Option GotFate} {call : CallState} → x.spec.func ≡ (func_rule_of l).func
     → IsCall (service_of l) n x fate (slice_get os n) call → (row_of call).id ≡ Some id → IsSentAs l (map (sent_row (service_of l)) os) x.spec id
 sent_exactly l os n x id {fate = fate} {call = call} first is e = go (slice_get os n) call refl is e
   where

@@ -17,7 +17,7 @@ use Rattle.session_model.specs.declared.report.Row.{Row}
 use Rattle.session.specs.declared.service.Service.{Service}
 use Rattle.session.specs.Courses.{Course, Opened, opened, answer_frame, joined, received, after_all}
 use Rattle.session_model.specs.Replies.{reply_by}
-use Rattle.session_model.specs.Sessions.{WIDTH, rule_of}
+use Rattle.session_model.specs.Sessions.{WIDTH, func_rule_of, rule_of}
 use Rattle.session.specs.Planned.{row_of, sent_row, got_rows, reported_step, report_of, link_log, planned}
 use Rattle.session.specs.Services.{IsService, left_of, right_of, reply_to, service_of}
 use Rattle.script_text.specs.ScriptText.{EventText, call, serve, work, deliver, close}
@@ -35,18 +35,18 @@ use Rattle.session.proofs.Legal.Rows.{IsAt, call_at, headings, scripted_calls, i
 use Rattle.session.proofs.Legal.Replies.{all_got_rows, used_named, closed_exactly, replied_as}
 use Rattle.facts.proofs.OptionLaws.{some_is}
 
--- each call is of the one function
-calls_first : (closed : Bool) (n : ℕ) (es : List EventText) → AllByRecursion (λ (x : Scripted). x.spec.func ≡ 0) (scripted_after closed (events_from n es))
-calls_first closed n [] = tt
-calls_first closed n (call func a b ∷ es) = (refl, calls_first closed (n + 1) es)
-calls_first closed n (serve ∷ es) = calls_first closed n es
-calls_first closed n (work ∷ es) = calls_first closed n es
-calls_first closed n (deliver ∷ es) = calls_first closed n es
-calls_first closed n (close ∷ es) = calls_first true n es
+-- each call is of the function that has the rule
+calls_own : (func : ℕ) (closed : Bool) (n : ℕ) (es : List EventText) → AllByRecursion (λ (x : Scripted). x.spec.func ≡ func) (scripted_after closed (events_from func n es))
+calls_own func closed n [] = tt
+calls_own func closed n (call name a b ∷ es) = (refl, calls_own func closed (n + 1) es)
+calls_own func closed n (serve ∷ es) = calls_own func closed n es
+calls_own func closed n (work ∷ es) = calls_own func closed n es
+calls_own func closed n (deliver ∷ es) = calls_own func closed n es
+calls_own func closed n (close ∷ es) = calls_own func true n es
 
-first_function : (l : Loaded) → IsLoaded l → AllByRecursion (λ (x : Scripted). x.spec.func ≡ 0) (scripted l.events)
-first_function l h =
-    subst (λ (m : Loaded). AllByRecursion (λ (x : Scripted). x.spec.func ≡ 0) (scripted m.events)) (sym h.is) (calls_first false 1 h.script.events)
+own_function : (l : Loaded) → IsLoaded l → AllByRecursion (λ (x : Scripted). x.spec.func ≡ (func_rule_of l).func) (scripted l.events)
+own_function l h =
+    subst (λ (m : Loaded). AllByRecursion (λ (x : Scripted). x.spec.func ≡ (func_rule_of m).func) (scripted m.events)) (sym h.is) (calls_own h.target.func false 1 h.script.events)
 
 -- the caller has read whole packets
 got_whole : (s : Service) (xs : List Scripted) (c : Course) → IsService s → IsSoundCourse s xs c
@@ -112,7 +112,7 @@ sent_right l c h t =
       requests = λ k row x id e f own.
           let p = call_at os c.fates t.calls refl refl k row e in
           subst (λ (y : Scripted). IsSentAs l (map (sent_row (service_of l)) os) y.spec id) (one_call x p f)
-          (sent_exactly l os p.m p.x id (All-at (λ (x : Scripted). x.spec.func ≡ 0) (scripted l.events) k p.x (first_function l h) p.x_at) p.is
+          (sent_exactly l os p.m p.x id (All-at (λ (x : Scripted). x.spec.func ≡ (func_rule_of l).func) (scripted l.events) k p.x (own_function l h) p.x_at) p.is
           (ap (λ (r : Row). r.id) (sym p.row_is) ∙ own));
     }
 
@@ -139,7 +139,7 @@ replied_right l c h t =
       packets = λ k row e.
           let p = call_at os c.fates t.calls refl refl k row e in
           subst (λ (r : Row). IsReplied l (all_got_rows s os c.fates) r r.end) (sym p.row_is)
-          (replied_as l c.fates os p.m p.x p.call (All-at (λ (x : Scripted). x.spec.func ≡ 0) (scripted l.events) k p.x (first_function l h) p.x_at) p.is);
+          (replied_as l c.fates os p.m p.x p.call (All-at (λ (x : Scripted). x.spec.func ≡ (func_rule_of l).func) (scripted l.events) k p.x (own_function l h) p.x_at) p.is);
       used = λ packet frame id u.
           let n = used_named os t.calls packet frame id u in
           (n.k, n.row, n.there, n.id_is, n.end_is);

@@ -1,6 +1,7 @@
 -- What the rows of a sound course say of the packets that came.
 use Rattle.std.proofs.Common.{◌≡◌, ◌↔◌, ◌+◌, ℕ, zero, suc, ℤ, pos, Bool, true, false, cond, Option, Some, List, [], ◌∷◌, length, take, map, slice_get, refl, sym, ap, subst, ◌∙◌, arith}
 use Rattle.tars_model.specs.declared.value.Value.{Value}
+use Rattle.session_model.specs.Sessions.{func_rule_of}
 use Rattle.session_model.specs.declared.link_log.GotFate.{GotFate}
 use Rattle.session_model.specs.declared.link_log.GotFate.TheVariants.{Used}
 use Rattle.session_model.specs.declared.link_log.GotRow.{GotRow}
@@ -136,7 +137,7 @@ code_unknown false n k e = cc
 unknown_not_zero : UNKNOWN ≡ pos 0 → ⊥
 unknown_not_zero e = cc
 
-reply_came : (l : Loaded) (got : List GotRow) (x : Scripted) (n : ℕ) (r : Reply) → x.spec.func ≡ 0 → ((k : ℤ) → r ≡ code k → k ≡ UNKNOWN)
+reply_came : (l : Loaded) (got : List GotRow) (x : Scripted) (n : ℕ) (r : Reply) → x.spec.func ≡ (func_rule_of l).func → ((k : ℤ) → r ≡ code k → k ≡ UNKNOWN)
     → slice_get got n ≡ Some (record { packet = response_frame (response_with (service_of l) (n + 1) r); fate = Used (record { 0 = n + 1 }) })
     → IsReplied l got (row_of (ended x.spec (n + 1) (outcome (n + 1) r))) (outcome (n + 1) r)
 unfolding service_of
@@ -158,7 +159,7 @@ reply_came l got x n (code v) first codes e = (
   },
 )
 
-pub replied_as : (l : Loaded) (fates : List GotFate) (os : List Opened) (n : ℕ) (x : Scripted) (call : CallState) → x.spec.func ≡ 0
+pub replied_as : (l : Loaded) (fates : List GotFate) (os : List Opened) (n : ℕ) (x : Scripted) (call : CallState) → x.spec.func ≡ (func_rule_of l).func
     → IsCall (service_of l) n x (slice_get fates n) (slice_get os n) call
     → IsReplied l (all_got_rows (service_of l) os fates) (row_of call) (row_of call).end
 replied_as l fates os n x call first is = go (slice_get fates n) (slice_get os n) call is refl refl

@@ -1,189 +1,185 @@
--- Loading gives one answer, and which one is told by what was read of the two files.
-use Rattle.std.proofs.Common.{◌≡◌, ◌<◌, ◌≤◌, ◌⊎◌, inl, inr, ⊎_elim, ℕ, List, length, take, Option, Some, None, refl, sym, ap, subst, ◌∙◌, arith, length-take, map, count_by}
-use Rattle.std.specs.Prelude.{Result, Ok, Err, IfSome, MatchOption}
-use Rattle.std.proofs.lemmas.Bool.{cases_lt}
-use Rattle.std.proofs.lemmas.List.{take_all}
-use Rattle.tars_base.specs.Contents.{Contents, HoldsOnly, IsToldOnly, IsPrefixOfFile}
-use Rattle.session.specs.declared.load_fault.LoadFault.{LoadFault}
-use Rattle.session.specs.declared.load_fault.LoadFault.TheVariants.{Refused, Read, Memory}
-use Rattle.session_model.specs.declared.loaded.Loaded.{Loaded}
-use Rattle.script_text.specs.declared.script.ScriptText.{ScriptText as ScriptStruct}
-use Rattle.session.specs.InterfaceFile.{InterfaceText, Verdict, accepted, IsJudged, too_long, no_tokens, no_file, another_shape, one_function}
-use Rattle.script_text.specs.TextLimits.{MAX_FILE}
-use Rattle.session.specs.InterfaceFile as verdict
-use Rattle.session.specs.LoadAnswers.{answer_of, IsGiven, IsOnlyGiven}
-use Rattle.session.specs.LoadSteps.{IsRefusedBy, IsFileRefusedBy}
-use Rattle.session.specs.VerdictSteps.{verdict_of}
-use Rattle.session.specs.Refusals.{refusal_line, script_fault, file_fault}
-use Rattle.session.specs.declared.interface_fault.FileFault.{FileFault}
-use Rattle.session.specs.declared.refused_text.ScriptFault.TheVariants.{Form, Value as BadValue}
-use Rattle.session.specs.declared.interface_fault.InterfaceFault.{InterfaceFault}
-use Rattle.session.specs.declared.interface_fault.InterfaceFault.TheVariants as interfaces
-use Rattle.session.specs.Loading.{LoadAnswer, loaded, refused, Loads, Agree, loaded_of}
+-- What loading gives of what the files held, by what was read of them.
+use Rattle.std.proofs.Common.{◌≡◌, ◌<◌, ◌≤◌, ◌^◌, ◌*◌, ℕ, List, [], ◌∷◌, length, map, count_by, Option, Some, refl, sym, subst, arith}
+use Rattle.std.specs.Prelude.{Result, Ok, Err, IsErr, IsErrAnd}
+use Rattle.std.specs.List.{All}
+use Rattle.std.proofs.lemmas.List.Elements.{All-head, All-tail}
+use Rattle.idl_check.specs.Checked.{IsChecked}
+use Rattle.idl_check.specs.declared.check_fault.CheckFault.{CheckFault}
+use Rattle.idl_check.specs.declared.check_fault.CheckFault.TheVariants as checks
+use Rattle.idl_load.specs.LoadAnswers.{ForRead, HasLoaded}
+use Rattle.idl_load.specs.Loading.{MAX_FILES, load_of}
+use Rattle.idl_load.specs.declared.files_fault.FilesFault.{FilesFault}
+use Rattle.idl_load.specs.declared.files_fault.FilesFault.TheVariants as files
+use Rattle.idl_load.proofs.Readings.{some_reading}
+use Rattle.idl_parse.specs.Files.{File}
+use Rattle.idl_schema.specs.Lengths.{total_length}
 use Rattle.script_text.specs.Reading.{event_of, Reads}
 use Rattle.script_text.specs.ScriptSteps.{is_call_value}
 use Rattle.script_text.specs.ScriptText.{ScriptText, IsScriptText}
 use Rattle.script_text.specs.TextLimits.{MAX_CALLS}
+use Rattle.script_text.specs.declared.script.ScriptText.{ScriptText as ScriptStruct}
 use Rattle.script_text.proofs.CallerLemmas.{calls_are}
-use Rattle.session.proofs.Loads.OneAnswer.{bad_script_only, bad_interface_only, bad_value_only, loaded_only}
+use Rattle.session.specs.Agreement.{Target, Agree}
+use Rattle.session.specs.LoadAnswers.{IsSchemaAnswered, IsAnswered}
+use Rattle.session.specs.LoadSteps.{fault_of, IsRefusedBy, IsNotLoaded, IsNotChecked}
+use Rattle.session.specs.Loading.{LoadAnswer, loaded, refused, Loads, long_script, bad_script, bad_interface, bad_value, session, loaded_of, IsLoaded}
+use Rattle.session.specs.Refusals.{refusal_line, script_fault, file_fault}
+use Rattle.session.specs.SchemaLoading.{LoadsSchema, bad_file, broken_rule, name_at}
+use Rattle.session.specs.SchemaLoading as schema
+use Rattle.session.specs.declared.load_fault.LoadFault.{LoadFault}
+use Rattle.session.specs.declared.load_fault.LoadFault.TheVariants.{Refused, Read, Memory}
+use Rattle.session.specs.declared.refused_text.ScriptFault.TheVariants.{TooLong, Form, Value as BadValue}
+use Rattle.session_model.specs.declared.loaded.Loaded.{Loaded}
+use Rattle.session.proofs.Loads.OneAnswer.{only_answer}
+use Rattle.session.proofs.Loads.OneSchema.{only_schema}
+use Rattle.session.proofs.Loads.Seen.{IsSeen, long_file, whole_file, held_in, held_told, any_held}
+use Rattle.tars_base.specs.Contents.{Contents, Held, AreTold, IsHeld, HoldsOnly}
+use Rattle.tars_base.specs.Limits.{MAX_FILE}
+use Rattle.tars_base.specs.declared.fault.ReadFault.{ReadFault}
+use Rattle.tars_base.specs.declared.fault.ReadFault.TheVariants as reads
+use Rattle.tars_model.specs.Declarations.{Declared}
 
--- ---- what is read of a file
+-- ---- an interface file
 
-abbrev pub MOST : ℕ
-MOST = 1048577
+abbrev IsShort : File → Type 0
+IsShort file = length file.text ≤ MAX_FILE
 
--- the file has these bytes, as far as they were read
-abbrev pub IsRead : Contents → List ℕ → List ℕ → Type 0
-IsRead c name bytes = (file : List ℕ) × (c name ≡ Some file) × (bytes ≡ take MOST file)
+at_most : (found : List File) → All IsShort found → total_length found ≤ length found * MAX_FILE
+at_most [] short = omega arith
+at_most (file ∷ found) short =
+    let first = All-head IsShort file found short in
+    let rest = at_most found (All-tail IsShort file found short) in
+    omega (arith, first, rest)
 
-file_of : (c : Contents) (name bytes : List ℕ) → IsPrefixOfFile (Some c) name MOST bytes → IsRead c name bytes
-file_of c name bytes read = by_file (c name) refl read
-  where
-    by_file : (o : Option (List ℕ)) → c name ≡ o → MatchOption o ⊥ (λ file. bytes ≡ take MOST file) → IsRead c name bytes
-    by_file None e read = absurd read
-    by_file (Some file) e read = (file, e, read)
+-- so many files of at most so many bytes
+pub files_short : (found : List File) → length found ≤ MAX_FILES → All IsShort found → total_length found < 2 ^ 32
+files_short found few short = let most = at_most found short in omega (arith, few, most)
 
--- what was read is the whole file, or both are too long
-abbrev SameOrLong : List ℕ → List ℕ → Type 0
-SameOrLong a b = (a ≡ b) ⊎ ((MAX_FILE < length a) × (MAX_FILE < length b))
+-- what loading the schema returned, for some contents
+abbrev pub ForSchema : Option Contents → List ℕ → Result Declared LoadFault → Type 0
+ForSchema told file result = (seen : Contents) × AreTold told seen × IsSchemaAnswered seen file result
 
-same_or_long : (bytes file : List ℕ) → bytes ≡ take MOST file → SameOrLong bytes file
-same_or_long bytes file read =
-    ⊎_elim (λ long. inr (omega (arith, length-take MOST file, ap length read), long))
-    (λ within. inl (read ∙ take_all MOST file (omega arith)))
-    (cases_lt MAX_FILE (length file))
+by_line : (seen : Contents) (file line : List ℕ) (fault : LoadFault) → LoadsSchema seen file (schema.refused line) → IsRefusedBy line fault → IsSchemaAnswered seen file (Err fault)
+by_line seen file line (Refused own) holds by = only_schema seen file (schema.refused own) (subst (λ (l : List ℕ). LoadsSchema seen file (schema.refused l)) (sym by) holds)
+by_line seen file line Read holds by = tt
+by_line seen file line Memory holds by = tt
 
-swapped : (a b : List ℕ) → SameOrLong a b → SameOrLong b a
-swapped a b (inl same) = inl (sym same)
-swapped a b (inr long) = inr (long.1, long.0)
+pub not_loaded : (told : Option Contents) (file : List ℕ) (e : FilesFault) (fault : LoadFault) → ForRead told (λ read. HasLoaded (Err e) (load_of read file)) → IsNotLoaded e fault → ForSchema told file (Err fault)
+not_loaded told file (files.Refused name what) fault given by =
+    let r = some_reading given.0 in
+    (given.0, given.1, by_line given.0 file (refusal_line name (file_fault what)) fault (bad_file r.0 name what r.1 (given.2 r.0 r.1)) by)
+not_loaded told file files.Read fault given by = (given.0, given.1, subst (λ (x : LoadFault). IsSchemaAnswered given.0 file (Err x)) (sym by) tt)
+not_loaded told file files.Memory fault given by = (given.0, given.1, subst (λ (x : LoadFault). IsSchemaAnswered given.0 file (Err x)) (sym by) tt)
 
-same_if_short : (a b : List ℕ) → SameOrLong a b → length a ≤ MAX_FILE → a ≡ b
-same_if_short a b (inl same) within = same
-same_if_short a b (inr long) within = absurd (omega (arith, long.0))
+pub not_checked : (told : Option Contents) (file : List ℕ) (found : List File) (e : CheckFault) (fault : LoadFault) → ForRead told (λ read. load_of read file ≡ Ok found) → IsChecked found (Err e) → IsNotChecked found e fault → ForSchema told file (Err fault)
+not_checked told file found (checks.Bad number at why) fault given least by =
+    let r = some_reading given.0 in
+    (given.0, given.1, by_line given.0 file _ fault (broken_rule r.0 found (record { file = number; at = at; why = why }) r.1 (given.2 r.0 r.1) least) by)
+not_checked told file found checks.Memory fault given least by = (given.0, given.1, subst (λ (x : LoadFault). IsSchemaAnswered given.0 file (Err x)) (sym by) tt)
 
-judged_alike : (a b : List ℕ) (v : Verdict) → SameOrLong a b → IsJudged a v → IsJudged b v
-judged_alike a b v (inl same) is = subst (λ (bytes : List ℕ). IsJudged bytes v) same is
-judged_alike a b v (inr long) (too_long own) = too_long long.1
-judged_alike a b v (inr long) (no_tokens at why within fault) = absurd (omega (arith, long.0, within))
-judged_alike a b v (inr long) (no_file tokens at why within lexed fault) = absurd (omega (arith, long.0, within))
-judged_alike a b v (inr long) (another_shape tokens entries within lexed parsed shape) = absurd (omega (arith, long.0, within))
-judged_alike a b v (inr long) (one_function tokens entries i within lexed parsed shape) = absurd (omega (arith, long.0, within))
+pub checked : (told : Option Contents) (file : List ℕ) (found : List File) (d : Declared) → ForRead told (λ read. load_of read file ≡ Ok found) → IsChecked found (Ok d) → ForSchema told file (Ok d)
+checked told file found d given is =
+    let r = some_reading given.0 in
+    let holds = schema.schema r.0 found r.1 (given.2 r.0 r.1) is.0 in
+    (given.0, given.1, only_schema given.0 file (schema.declared d) (subst (λ (x : Declared). LoadsSchema given.0 file (schema.declared x)) (sym is.1) holds))
 
--- ---- what the two files are
+-- ---- a script
+
+-- what loading the script returned, for what was held
+abbrev pub ForScript : Option Contents → List ℕ → Result Loaded LoadFault → Type 0
+ForScript told script result = (held : Held) × IsHeld told held × IsAnswered held script result
 
 -- the struct holds what these bytes say, which are a script
 abbrev pub HasRead : List ℕ → ScriptStruct → Type 0
 HasRead bytes r = (s : ScriptText) × IsScriptText s bytes × Reads r s
 
--- the file is a script, which the struct holds
-pub record HoldsScript (c : Contents) (name : List ℕ) (r : ScriptStruct) : Type 0 where
-  pub file : List ℕ
-  pub is : c name ≡ Some file
-  pub text : ScriptText
-  pub form : IsScriptText text file
-  pub reads : Reads r text
-
--- the file is judged so, and in no other way
-pub record HoldsInterface (c : Contents) (name : List ℕ) (v : Verdict) : Type 0 where
-  pub file : List ℕ
-  pub is : c name ≡ Some file
-  pub judged : HoldsOnly (IsJudged file) v
-
-script_held : (c : Contents) (name bytes : List ℕ) (r : ScriptStruct) → IsPrefixOfFile (Some c) name MOST bytes → HasRead bytes r → HoldsScript c name r
-script_held c name bytes r read found =
-    let f = file_of c name bytes read in
-    record {
-      file = f.0;
-      is = f.1;
-      text = found.0;
-      form = subst (λ (b : List ℕ). IsScriptText found.0 b) (same_if_short bytes f.0 (same_or_long bytes f.0 f.2) found.1.within) found.1;
-      reads = found.2;
-    }
-
-interface_held : (c : Contents) (name bytes : List ℕ) (v : Verdict) → IsPrefixOfFile (Some c) name MOST bytes → HoldsOnly (IsJudged bytes) v → HoldsInterface c name v
-interface_held c name bytes v read judged =
-    let f = file_of c name bytes read in
-    let same = same_or_long bytes f.0 f.2 in
-    record {
-      file = f.0;
-      is = f.1;
-      judged = record {
-        holds = judged_alike bytes f.0 v same judged.holds;
-        only = λ other is. judged.only other (judged_alike f.0 bytes other (swapped bytes f.0 same) is);
-      };
-    }
-
--- ---- where contents are told
-
 -- as many calls as a script may have
 pub calls_read : (bytes : List ℕ) (r : ScriptStruct) → HasRead bytes r → count_by is_call_value (map event_of r.events.items) ≤ MAX_CALLS
 calls_read bytes r found = rw (found.2.events, ← calls_are found.0.events) found.1.calls
 
-abbrev pub IsExact : Option Contents → List ℕ → LoadAnswer → Type 0
-IsExact told name = IsToldOnly told (λ contents. Loads contents name)
+-- a failed read and want of memory say nothing
+abbrev pub IsSilent : LoadFault → Type 0
+IsSilent (Refused line) = ⊥
+IsSilent Read = Unit {0}
+IsSilent Memory = Unit {0}
 
-pub bad_script_told : (told : Option Contents) (name bytes : List ℕ) → IsPrefixOfFile told name MOST bytes → ((s : ScriptText) → IsScriptText s bytes → ⊥) → IsExact told name (refused (refusal_line name (script_fault Form)))
-bad_script_told None name bytes read none = tt
-bad_script_told (Some c) name bytes read none =
-    let f = file_of c name bytes read in
-    let same = swapped bytes f.0 (same_or_long bytes f.0 f.2) in
-    bad_script_only c name f.0 f.1 (λ s form. none s (subst (λ (b : List ℕ). IsScriptText s b) (same_if_short f.0 bytes same form.within) form))
+pub read_silent : (fault : ReadFault) → IsSilent (fault_of fault)
+read_silent reads.Failed = tt
+read_silent reads.Memory = tt
 
--- the interface file is the one that the script names
-client_is : (c : Contents) (name : List ℕ) (r : ScriptStruct) (v : Verdict) (h : HoldsScript c name r) (n : HoldsInterface c r.client.now v) → c h.text.client ≡ Some n.file
-client_is c name r v h n = ap c (sym h.reads.client) ∙ n.is
+pub silent : (told : Option Contents) (script : List ℕ) (fault : LoadFault) → IsSilent fault → ForScript told script (Err fault)
+silent told script (Refused line) is = absurd is
+silent told script Read is = let any = any_held told in (any.0, any.1, tt)
+silent told script Memory is = let any = any_held told in (any.0, any.1, tt)
 
-pub bad_interface_told : (told : Option Contents) (name text file : List ℕ) (what : FileFault) (r : ScriptStruct) → IsPrefixOfFile told name MOST text → HasRead text r
-    → IsPrefixOfFile told r.client.now MOST file → HoldsOnly (IsJudged file) (verdict.refused what) → IsExact told name (refused (refusal_line r.client.now (file_fault what)))
-bad_interface_told None name text file what r text_read found file_read judged = tt
-bad_interface_told (Some c) name text file what r text_read found file_read judged =
-    let h = script_held c name text r text_read found in
-    let n = interface_held c r.client.now file (verdict.refused what) file_read judged in
-    subst (λ (client : List ℕ). HoldsOnly (Loads c name) (refused (refusal_line client (file_fault what)))) (sym h.reads.client)
-    (bad_interface_only c name h.file n.file h.text what h.is h.form (client_is c name r (verdict.refused what) h n) n.judged)
+-- what an error says of a result
+pub by_error : (told : Option Contents) (script : List ℕ) (fault : LoadFault) (result : Result Loaded LoadFault)
+    → IsErr result × IsErrAnd result (λ x. x ≡ fault) → ForScript told script (Err fault) → ForScript told script result
+by_error told script fault (Ok l) is says = absurd (cc (is.0))
+by_error told script fault (Err own) is says = subst (λ (f : LoadFault). ForScript told script (Err f)) (sym is.1) says
 
-pub bad_value_told : (told : Option Contents) (name text file : List ℕ) (r : ScriptStruct) (i : InterfaceText) → IsPrefixOfFile told name MOST text → HasRead text r
-    → IsPrefixOfFile told r.client.now MOST file → HoldsOnly (IsJudged file) (accepted i) → ((s : ScriptText) → Reads r s → ¬ Agree s i) → IsExact told name (refused (refusal_line name (script_fault BadValue)))
-bad_value_told None name text file r i text_read found file_read judged unlike = tt
-bad_value_told (Some c) name text file r i text_read found file_read judged unlike =
-    let h = script_held c name text r text_read found in
-    let n = interface_held c r.client.now file (accepted i) file_read judged in
-    bad_value_only c name h.file n.file h.text i h.is h.form (client_is c name r (accepted i) h n) n.judged (unlike h.text h.reads)
+refused_script : (held : Held) (script line : List ℕ) (fault : LoadFault) → Loads held script (refused line) → IsRefusedBy line fault → IsAnswered held script (Err fault)
+refused_script held script line (Refused own) holds by = only_answer held script (refused own) (subst (λ (l : List ℕ). Loads held script (refused l)) (sym by) holds)
+refused_script held script line Read holds by = tt
+refused_script held script line Memory holds by = tt
 
-pub loaded_told : (told : Option Contents) (name text file : List ℕ) (r : ScriptStruct) (i : InterfaceText) (l : Loaded) → IsPrefixOfFile told name MOST text → HasRead text r
-    → IsPrefixOfFile told r.client.now MOST file → HoldsOnly (IsJudged file) (accepted i) → ((s : ScriptText) → Reads r s → Agree s i × (l ≡ loaded_of s i)) → IsExact told name (loaded l)
-loaded_told None name text file r i l text_read found file_read judged agree = tt
-loaded_told (Some c) name text file r i l text_read found file_read judged agree =
-    let h = script_held c name text r text_read found in
-    let n = interface_held c r.client.now file (accepted i) file_read judged in
-    let a = agree h.text h.reads in
-    subst (λ (own : Loaded). HoldsOnly (Loads c name) (loaded own)) (sym a.1)
-    (loaded_only c name h.file n.file h.text i h.is h.form (client_is c name r (accepted i) h n) n.judged a.0)
+module _ (told : Option Contents) (script bytes : List ℕ) (s : IsSeen told script bytes) where
+  -- nothing more is read
+  abbrev alone : Held
+  alone = held_in s.contents s.contents
 
-pub refused_exact : (told : Option Contents) (name line : List ℕ) (fault : LoadFault) → IsExact told name (refused line) → IsRefusedBy line fault → IfSome (answer_of (Err fault)) (IsExact told name)
-refused_exact told name line (Refused own) exact by = subst (λ (l : List ℕ). IsExact told name (refused l)) (sym by) exact
-refused_exact told name line Memory exact by = tt
-refused_exact told name line Read exact by = tt
+  alone_told : IsHeld told alone
+  alone_told = held_told told s.contents s.contents s.are_told s.are_told
 
--- a refused file is told by its line, unless memory ran out
-pub file_refused_exact : (told : Option Contents) (name text file : List ℕ) (r : ScriptStruct) (fault : InterfaceFault) (answer : LoadFault) → IsPrefixOfFile told name MOST text → HasRead text r
-    → IsPrefixOfFile told r.client.now MOST file → IfSome (verdict_of (Err fault)) (HoldsOnly (IsJudged file)) → IsFileRefusedBy r.client.now fault answer → IfSome (answer_of (Err answer)) (IsExact told name)
-file_refused_exact told name text file r (interfaces.Refused fault) answer text_read found file_read judged by =
-    refused_exact told name (refusal_line r.client.now (file_fault fault)) answer (bad_interface_told told name text file fault r text_read found file_read judged) by
-file_refused_exact told name text file r interfaces.Memory answer text_read found file_read judged by = subst (λ (a : LoadFault). IfSome (answer_of (Err a)) (IsExact told name)) (sym by) tt
+  alone_holds : (text : List ℕ) → s.contents script ≡ Some text → alone 0 script ≡ Some text
+  alone_holds text is = is
 
--- ---- what is returned then
+  pub too_long : (fault : LoadFault) → MAX_FILE < length bytes → IsRefusedBy (refusal_line script (script_fault TooLong)) fault → ForScript told script (Err fault)
+  too_long fault long by =
+      (alone, alone_told, refused_script alone script _ fault (long_script s.file (alone_holds s.file s.is) (long_file told script bytes s long)) by)
 
-pub exact_given : (told : Option Contents) (name : List ℕ) (result : Result Loaded LoadFault) → IfSome (answer_of result) (IsExact told name) → IsGiven told name result
-exact_given None name result exact = tt
-exact_given (Some c) name (Ok l) exact = exact.holds
-exact_given (Some c) name (Err (Refused line)) exact = exact.holds
-exact_given (Some c) name (Err Read) exact = tt
-exact_given (Some c) name (Err Memory) exact = tt
+  module _ (within : length bytes ≤ MAX_FILE) where
+    pub no_form : (fault : LoadFault) → ((t : ScriptText) → IsScriptText t bytes → ⊥) → IsRefusedBy (refusal_line script (script_fault Form)) fault → ForScript told script (Err fault)
+    no_form fault none by =
+        (alone, alone_told, refused_script alone script _ fault (bad_script bytes (alone_holds bytes (whole_file told script bytes s within)) within none) by)
 
-pub exact_only : (told : Option Contents) (name : List ℕ) (result : Result Loaded LoadFault) → IfSome (answer_of result) (IsExact told name) → IsOnlyGiven told name result
-exact_only None name result exact = tt
-exact_only (Some c) name (Ok l) exact = exact.only
-exact_only (Some c) name (Err (Refused line)) exact = exact.only
-exact_only (Some c) name (Err Read) exact = tt
-exact_only (Some c) name (Err Memory) exact = tt
+    module _ (r : ScriptStruct) (t : ScriptText) (form : IsScriptText t bytes) (reads : Reads r t) (result : Result Declared LoadFault) (given : ForSchema told r.client.now result) where
+      abbrev both : Held
+      both = held_in s.contents given.0
+
+      both_told : IsHeld told both
+      both_told = held_told told s.contents given.0 s.are_told given.1
+
+      both_holds : both 0 script ≡ Some bytes
+      both_holds = whole_file told script bytes s within
+
+      loads_schema : (answer : schema.SchemaAnswer) → LoadsSchema given.0 r.client.now answer → LoadsSchema (both 1) t.client answer
+      loads_schema answer loads = subst (λ (client : List ℕ). LoadsSchema given.0 client answer) reads.client loads
+
+      pub no_schema : (fault : LoadFault) → result ≡ Err fault → ForScript told script (Err fault)
+      no_schema (Refused line) is =
+          let answered : HoldsOnly (LoadsSchema given.0 r.client.now) (schema.refused line) = subst (IsSchemaAnswered given.0 r.client.now) is given.2 in
+          (both, both_told, only_answer both script (refused line) (bad_interface bytes line t both_holds form (loads_schema (schema.refused line) answered.holds)))
+      no_schema Read is = (both, both_told, tt)
+      no_schema Memory is = (both, both_told, tt)
+
+      module _ (d : Declared) (is : result ≡ Ok d) where
+        declared : LoadsSchema (both 1) t.client (schema.declared d)
+        declared =
+            let answered : HoldsOnly (LoadsSchema given.0 r.client.now) (schema.declared d) = subst (IsSchemaAnswered given.0 r.client.now) is given.2 in
+            loads_schema (schema.declared d) answered.holds
+
+        pub unlike : (fault : LoadFault) → ((x : Target) → Agree t d x → ⊥) → IsRefusedBy (refusal_line script (script_fault BadValue)) fault → ForScript told script (Err fault)
+        unlike fault none by = (both, both_told, refused_script both script _ fault (bad_value bytes t d both_holds form declared none) by)
+
+        pub agreed : (l : Loaded) → (x : Target) × Agree t d x × (l ≡ loaded_of t d x) → ForScript told script (Ok l)
+        agreed l found =
+            (both, both_told, only_answer both script (loaded l) (subst (λ (k : Loaded). Loads both script (loaded k)) (sym found.2) (session bytes t d found.0 both_holds form declared found.1)))
+
+-- what was loaded is a session
+pub loads_loaded : (held : Held) (script : List ℕ) (l : Loaded) → Loads held script (loaded l) → IsLoaded l
+loads_loaded held script l loads = by_row (loaded l) l refl loads
+  where
+    by_row : (answer : LoadAnswer) (l : Loaded) → answer ≡ loaded l → Loads held script answer → IsLoaded l
+    by_row answer l is (session text t d x own form given agree) = record { script = t; bytes = text; client = d; target = x; form = form; agree = agree; is = let same : loaded (loaded_of t d x) ≡ loaded l = is in cc }
+    by_row answer l is _ = absurd cc

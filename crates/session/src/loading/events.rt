@@ -13,10 +13,16 @@ use script_text::EventText;
 use std::alloc::{AllocError, Global};
 use tars_model::{List, Value};
 
-/// A call by the one line of the one function.
+/// A call by the one line.
 #[tactic(auto, unfolding(crate::specs::SessionSteps::call_with))]
-fn call_spec(alloc: Global, number: u32, first: i32, second: i32) -> Result<CallSpec, AllocError>
-    ensures { IfOk result (λ spec. spec ≡ call_with number first second) }
+fn call_spec(
+    alloc: Global,
+    func: u32,
+    number: u32,
+    first: i32,
+    second: i32,
+) -> Result<CallSpec, AllocError>
+    ensures { IfOk result (λ spec. spec ≡ call_with func number first second) }
 {
     let mut args = List::new(alloc);
     args.push(Value::Num(i64::from(first)))?;
@@ -24,7 +30,7 @@ fn call_spec(alloc: Global, number: u32, first: i32, second: i32) -> Result<Call
     Ok(CallSpec {
         call: number,
         line: 1,
-        func: 0,
+        func,
         two_way: true,
         begin: false,
         key: 0,
@@ -32,23 +38,24 @@ fn call_spec(alloc: Global, number: u32, first: i32, second: i32) -> Result<Call
     })
 }
 
-/// The event, where the next call has this number; none for a call of another function, or with an
-/// argument that is no int.
+/// The event, where the next call has this number; none for a call of another function than that of this name and
+/// number, or with an argument that is no int.
 #[tactic(auto, unfolding(crate::specs::SessionSteps::event_in))]
 fn event_of(
     alloc: Global,
-    func: &[u8],
+    own: &[u8],
+    func: u32,
     number: u32,
     text: EventText,
 ) -> Result<Option<Event>, AllocError>
-    ensures { IfOk result (λ event. Gives (λ e. e) event (event_in func.now number (event_of text.entry))) }
+    ensures { IfOk result (λ event. Gives (λ e. e) event (event_in own.now func number (event_of text.entry))) }
 {
     Ok(match text {
         EventText::Call {
             func: name,
             first: Some(first),
             second: Some(second),
-        } if name == func => Some(Event::Call(call_spec(alloc, number, first, second)?)),
+        } if name == own => Some(Event::Call(call_spec(alloc, func, number, first, second)?)),
         EventText::Call { .. } => None,
         EventText::Serve => Some(Event::Serve {
             node: NODE,
@@ -74,20 +81,21 @@ fn next_number(number: u32, text: &EventText) -> u32
     }
 }
 
-/// All events, with their calls numbered from 1; none where a call is of another function, or has an
-/// argument that is no int.
+/// All events, with their calls numbered from 1; none where a call is of another function than that of this name and
+/// number, or has an argument that is no int.
 pub fn events_of(
     alloc: Global,
-    func: &[u8],
+    own: &[u8],
+    func: u32,
     texts: &[EventText],
 ) -> Result<Option<List<Event>>, AllocError>
     requires { count_by is_call_value (map event_of texts.now) ≤ MAX_CALLS }
-    ensures { IfOk result (λ events. Gives (λ es. es) events (events_in func.now 1 (map event_of texts.now))) }
+    ensures { IfOk result (λ events. Gives (λ es. es) events (events_in own.now func 1 (map event_of texts.now))) }
 {
     let mut events = List::new(alloc);
     let mut number = 1;
     for text in texts {
-        let Some(event) = event_of(alloc, func, number, *text)? else {
+        let Some(event) = event_of(alloc, own, func, number, *text)? else {
             return Ok(None);
         };
         events.push(event)?;
