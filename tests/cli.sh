@@ -51,6 +51,13 @@ interface_case() {
     case_of "$1" "$2" "$3" "$4" plan first.plan
 }
 
+# A check of an interface file, and a check of what it printed: name, text, then the file.
+check_case() {
+    case_of "$1" 0 "$2" '' check "$3"
+    cp out printed.tars
+    case_of "$1, once more" 0 "$2" '' check printed.tars
+}
+
 header() {
     printf 'client calc.tars\ninterface M::Calc\nobject A.B.C@tcp -h %s -p 9001 -t 3000\nservant add add a b\n' "$1"
 }
@@ -77,6 +84,13 @@ report='call 1 line 1 add node 1 live id 1 value 5
 sent 1 1 call 1 0000002510012C3C40015605412E422E4366036164647D00000410022003810BB8980CA80C
 got 1 1 used 1 0000001510012C30014C5C6D0000020005780C8600
 done calls 1 two-way 1 one-way 0'
+canonical='module M
+{
+    interface Calc
+    {
+        int add(int a, int b);
+    };
+};'
 none='done calls 0 two-way 0 one-way 0'
 
 echo "$calc" >calc.tars
@@ -102,7 +116,7 @@ case_of 'a script that is no text' 1 'refused bytes.plan script 1 0' '' plan byt
 long_script 1048576 >longest.plan
 case_of 'the longest script' 0 "$none" '' plan longest.plan
 long_script 1048577 >longer.plan
-case_of 'a script of one byte more' 1 'refused longer.plan script 1 0' '' plan longer.plan
+case_of 'a script of one byte more' 1 'refused longer.plan size 1 1048576' '' plan longer.plan
 
 # A script or interface file that may not be read. Who runs as root may read it all the same.
 chmod 000 first.plan
@@ -124,7 +138,7 @@ mkdir calc.tars
 interface_case 'a folder as interface file' 3 '' 'read fault'
 rmdir calc.tars
 : >calc.tars
-interface_case 'an empty interface file' 1 'refused calc.tars check 11 0' ''
+interface_case 'an empty interface file' 1 'refused first.plan script 7 0' ''
 printf '%s\0\n' "$calc" >calc.tars
 interface_case 'an interface file with a NUL' 1 "refused calc.tars lex 1 ${#calc}" ''
 printf '\xff%s\n' "$calc" >calc.tars
@@ -132,8 +146,71 @@ interface_case 'an interface file that is no text' 1 'refused calc.tars lex 1 0'
 long_interface 1048576 >calc.tars
 interface_case 'the longest interface file' 0 "$report" ''
 long_interface 1048577 >calc.tars
-interface_case 'an interface file of one byte more' 1 'refused calc.tars parse 5 0' ''
+interface_case 'an interface file of one byte more' 1 'refused calc.tars size 1 1048576' ''
+case_of 'a check of one byte more' 1 'refused calc.tars size 1 1048576' '' check calc.tars
+long_interface 1048576 >calc.tars
+case_of 'a check of the longest interface file' 0 "$canonical" '' check calc.tars
 echo "$calc" >calc.tars
+case_of 'an interface file is checked' 0 "$canonical" '' check calc.tars
+case_of 'a check of no file' 3 '' 'read fault' check no.tars
+case_of 'a check of a folder' 3 '' 'read fault' check folder
+case_of 'a check without a file' 2 '' "$usage" check
+case_of 'a check of a script' 1 'refused first.plan lex 1 11' '' check first.plan
+
+# Interface files with includes.
+mkdir -p idl
+echo "$calc" >idl/calc.tars
+echo '#include "idl/calc.tars"' >including.tars
+case_of 'an included file in a folder' 0 "$canonical" '' check including.tars
+sed 's#^client .*#client including.tars#' first.plan >including.plan
+case_of 'a script over an included interface' 0 "$report" '' plan including.plan
+echo '#include "idl/none.tars" module M { };' >missing.tars
+case_of 'an included file that is not there' 3 '' 'read fault' check missing.tars
+sed 's#^client .*#client missing.tars#' first.plan >missing.plan
+case_of 'a script over a missing file' 3 '' 'read fault' plan missing.plan
+echo '#include "circle_b.tars"' >circle_a.tars
+echo '#include "circle_a.tars"' >circle_b.tars
+case_of 'files that include each other' 1 'refused circle_b.tars check 1 9' '' check circle_a.tars
+for number in $(seq 64); do
+    echo "#include \"file_$((number + 1)).tars\"" >"file_$number.tars"
+done
+echo 'module M { };' >file_65.tars
+case_of 'the 65th file' 1 'refused file_64.tars check 12 9' '' check file_1.tars
+case_of '64 files' 0 '' '' check file_2.tars
+
+# What a check printed is accepted, and printed once more.
+check_case 'a checked interface file' "$canonical" calc.tars
+awk '/^## Canonical text/ {found = 1} found && /^```/ {fence++; next} found && fence == 1 {print}' \
+    "$top/docs/IDL.md" >shown.tars
+check_case 'the text that docs/IDL.md shows' "$(cat shown.tars)" shown.tars
+printf '#include "idl/kinds.tars"\n#include "idl/units.tars"\nmodule Parts { struct Part { 1 optional Units::Unit unit = G;
+    0 require Kind kind; }; key[Part, kind]; }; // parts\n' >parts.tars
+printf '#include "idl/units.tars"\nmodule Parts { enum Kind { SCREW, NUT } /* */; };' >idl/kinds.tars
+printf 'module Units\r\n{ enum Unit { KG = 1, G, }; };\r\n' >idl/units.tars
+check_case 'a file with those that it includes' 'module Units
+{
+    enum Unit
+    {
+        KG = 1,
+        G = 2,
+    };
+};
+module Parts
+{
+    enum Kind
+    {
+        SCREW = 0,
+        NUT = 1,
+    };
+    struct Part
+    {
+        0 require Kind kind;
+        1 optional Units::Unit unit = 2;
+    };
+    key[Part, kind];
+};' parts.tars
+printf 'module Units { const double KG = 1; };' >idl/units.tars
+case_of 'a fault of an included file' 1 'refused idl/units.tars check 7 21' '' check parts.tars
 
 # Standard output.
 : >out
@@ -156,12 +233,18 @@ timeout 60 ./tars_tool >out 2>/dev/full </dev/null
 echo $? >status
 judge 'a full standard error leaves the status' 2 '' ''
 
-# The examples, as docs/SCRIPTS.md shows them.
+# The examples, as docs/SCRIPTS.md shows them: what stands between the next two fences after a file's name.
+shown_for() {
+    awk -v file="(../examples/$1)" \
+        'index($0, file) {found = 1} found && /^```/ {fence++; next} found && fence == 1 {print} fence == 2 {exit}' \
+        "$top/docs/SCRIPTS.md"
+}
 cp "$top"/examples/* .
+case_of 'examples/shop.tars' 0 "$(shown_for shop.tars)" '' check shop.tars
+case_of 'examples/calc.tars' 0 "$canonical" '' check calc.tars
+case_of 'examples/typo.tars' 1 'refused typo.tars parse 5 50' '' check typo.tars
 for plan in first late too_large refused typo; do
-    shown=$(awk -v plan="(../examples/$plan.plan)" \
-        'index($0, plan) {found = 1} found && /^```/ {fence++; next} found && fence == 1 {print} fence == 2 {exit}' \
-        "$top/docs/SCRIPTS.md")
+    shown=$(shown_for "$plan.plan")
     status=0
     case $plan in refused | typo) status=1 ;; esac
     case_of "examples/$plan.plan" "$status" "$shown" '' plan "$plan.plan"
@@ -194,6 +277,10 @@ timeout 300 unbuilt/tars_tool plan folder/nested.plan >out 2>err </dev/null
 echo $? >status
 head -n 1 err >first && mv first err
 judge 'a run before the proof' 0 "$report" "$note"
+timeout 300 unbuilt/tars_tool check shop.tars >out 2>err </dev/null
+echo $? >status
+head -n 1 err >first && mv first err
+judge 'a check before the proof' 0 "$(shown_for shop.tars)" "$note"
 
 echo "$passed passed, $failed failed"
 [ "$failed" -eq 0 ]

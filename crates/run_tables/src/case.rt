@@ -25,13 +25,14 @@ work 1
 deliver 1
 ";
 
-/// The arguments of a run, the texts of `first.plan` and `calc.tars`, and the numbers of the read and of the write
-/// that are to fail; 0 is none.
+/// The arguments of a run, the texts of `first.plan`, `calc.tars` and `b.tars`, and the numbers of the read and of the
+/// write that are to fail; 0 is none. Where `b.tars` has no text, it is not there.
 #[derive(Clone, Copy)]
 pub struct Case<'a> {
     pub arguments: &'a str,
     pub script: &'a str,
     pub interface: &'a str,
+    pub other: &'a str,
     pub failing_read: u64,
     pub failing_write: u64,
 }
@@ -51,15 +52,15 @@ fn named(alloc: Global, name: &str, text: &str) -> Result<NamedFile, AllocError>
     Ok(NamedFile { name, bytes })
 }
 
-/// Files of which one read is to fail.
-fn files_of(
-    alloc: Global,
-    script: NamedFile,
-    interface: NamedFile,
-    failing: u64,
-) -> Result<MemFiles, AllocError> {
-    let files = vec![in alloc; script, interface]?;
-    Ok(MemFiles::new(files, vec![in alloc; failing]?))
+/// The files of a case, of which one read is to fail.
+fn files_of(alloc: Global, case: &Case) -> Result<MemFiles, AllocError> {
+    let mut files = Vec::new(alloc);
+    files.push(named(alloc, "first.plan", case.script)?)?;
+    files.push(named(alloc, "calc.tars", case.interface)?)?;
+    if !case.other.is_empty() {
+        files.push(named(alloc, "b.tars", case.other)?)?;
+    }
+    Ok(MemFiles::new(files, vec![in alloc; case.failing_read]?))
 }
 
 /// A sink that takes a byte at a time, of which one write is to fail.
@@ -69,18 +70,11 @@ fn sink_of(alloc: Global, failing: u64) -> Result<MemSink, AllocError> {
     Ok(sink)
 }
 
-/// The files and the sink of a case.
-fn outside_of(alloc: Global, case: &Case) -> Result<(MemFiles, MemSink), AllocError> {
-    let script = named(alloc, "first.plan", case.script)?;
-    let interface = named(alloc, "calc.tars", case.interface)?;
-    let files = files_of(alloc, script, interface, case.failing_read)?;
-    Ok((files, sink_of(alloc, case.failing_write)?))
-}
-
 /// How a run ends, and what it writes.
 pub fn ran(alloc: Global, case: &Case) -> Result<(Status, String), AllocError> {
     let arguments = arguments_of(alloc, case.arguments)?;
-    let (mut files, mut sink) = outside_of(alloc, case)?;
+    let mut files = files_of(alloc, case)?;
+    let mut sink = sink_of(alloc, case.failing_write)?;
     let status = run(alloc, &arguments, &mut files, &mut sink);
     let text = str::from_utf8(sink.bytes()).unwrap_or("no text");
     Ok((status, String::from_str(alloc, text)?))

@@ -6,6 +6,7 @@
 #![tactic(auto)]
 
 mod case;
+mod check_case;
 mod row_text;
 mod rows;
 mod told;

@@ -1,6 +1,7 @@
 //! What comes of a row: a word, and what it is asked of.
 
 use crate::case::{CALC, Case, FIRST, HEADER, ran};
+use crate::check_case::{check_files, check_text};
 use crate::row_text::text_of;
 use crate::told::told;
 use std::alloc::{AllocError, Global};
@@ -11,6 +12,7 @@ const PLAIN: Case = Case {
     arguments: "plan first.plan",
     script: FIRST,
     interface: CALC,
+    other: "",
     failing_read: 0,
     failing_write: 0,
 };
@@ -92,13 +94,15 @@ fn interface(alloc: Global, text: &str) -> Result<String, AllocError> {
     outcome(alloc, &case)
 }
 
-/// `texts SCRIPT => INTERFACE`: other texts.
+/// `texts SCRIPT => INTERFACE => OTHER`: other texts.
 fn texts(alloc: Global, text: &str) -> Result<String, AllocError> {
-    let both = text_of(alloc, text)?;
-    let (script, interface) = two_texts(&both);
+    let all = text_of(alloc, text)?;
+    let (script, rest) = two_texts(&all);
+    let (interface, other) = two_texts(rest);
     let case = Case {
         script,
         interface,
+        other,
         ..PLAIN
     };
     outcome(alloc, &case)
@@ -132,6 +136,8 @@ pub fn outcome_of(alloc: Global, row: &str) -> Result<String, AllocError> {
         "interface" => interface(alloc, text),
         "texts" => texts(alloc, text),
         "events" => events(alloc, text),
+        "check" => check_text(alloc, text),
+        "files" => check_files(alloc, text),
         _ => String::from_str(alloc, row),
     }
 }
