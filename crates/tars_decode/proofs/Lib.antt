@@ -1,0 +1,11 @@
+pub mod Rooms
+pub mod Loops
+pub mod LoopSteps
+pub mod KeyLaws
+pub mod Places
+pub mod EntryLaws
+pub mod SchemaLaws
+pub mod SchemaDefaults
+pub mod Laws
+pub mod Fitting
+pub mod CallerLemmas
