@@ -1,0 +1,20 @@
+//! Values of the interface language as text, and back (docs/SCRIPTS.md, "Value text"). `print_value` writes a value in
+//! its one printed form; `read_value` reads the value that stands at the start of a text, or says where and why none
+//! does.
+//!
+//! Read `specs/Printed.antt` first, which says how a value is printed, and `specs/Spelling.antt`, which says what texts
+//! say a value. The modules named `*Steps` follow the code's steps and are for the proofs.
+#![tactic(auto)]
+
+mod cursor;
+mod halt;
+mod numbers;
+mod printing;
+mod reading;
+mod texts;
+mod value_fault;
+mod values;
+
+pub use printing::print_value;
+pub use reading::{one_value, read_value};
+pub use value_fault::{ValueFault, ValueWhy};
