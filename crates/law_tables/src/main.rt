@@ -1,4 +1,5 @@
-//! Worked cases for `tars_base`, `tars_model`, `tars_wire`, `tars_codec`, `idl_parse` and `idl_check`: the files `data/*.rows`
+//! Worked cases for `tars_base`, `tars_model`, `tars_wire`, `tars_codec`, `tars_decode`, `value_text`, `idl_parse` and
+//! `idl_check`: the files `data/*.rows`
 //! have the cases, a row each, and `stdout` what each of them comes to. What comes of a row was worked by hand from
 //! docs/PROTOCOL.md, docs/IDL.md and docs/SCRIPTS.md; it is printed in the row's place, and comments and empty lines
 //! are printed as they are.
@@ -17,6 +18,7 @@ mod row_text;
 mod rows;
 mod schemas;
 mod shape;
+mod structs;
 mod tokens;
 mod values;
 mod walk;

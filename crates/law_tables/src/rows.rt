@@ -8,7 +8,7 @@ use crate::files::put_file;
 use crate::outside::{put_copy, put_reads, put_status, put_writes};
 use crate::page::Page;
 use crate::row_text::{bytes_of, split_word};
-use crate::schemas::put_default;
+use crate::schemas::{put_decode, put_default, put_value};
 use crate::tokens::{put_mebibyte, put_tokens_of};
 use crate::walk::put_walk;
 use idl_parse::LexWhy;
@@ -49,7 +49,6 @@ fn put_of_bytes(page: &mut Page, word: &str, bytes: &[u8])
         "scan" => put_scan(page, bytes),
         "walk" => put_walk(page, bytes),
         "lex" => put_tokens_of(page, bytes),
-        "default" => put_default(page, bytes),
         _ => put_file(page, word, bytes),
     }
 }
@@ -80,6 +79,9 @@ fn put_plain(page: &mut Page, row: &str, word: &str, text: &str) {
         "mebibyte" => put_mebibyte(page, text),
         "members" => put_members(page, text),
         "interfaces" => put_interfaces(page),
+        "default" => put_default(page, text),
+        "decode" => put_decode(page, text),
+        "value" => put_value(page, text),
         "codec" => put_codec(page, text),
         "reads" => put_reads(page, text),
         "writes" => put_writes(page, text),
@@ -94,9 +96,7 @@ pub fn put_row(page: &mut Page, row: &str) {
     let (word, text) = split_word(row);
     match word {
         "scan" | "walk" => put_digits(page, word, text),
-        "lex" | "parse" | "fault" | "includes" | "entries" | "default" => put_bytes(
-            page, word, text,
-        ),
+        "lex" | "parse" | "fault" | "includes" | "entries" => put_bytes(page, word, text),
         "reason" => put_reason(page, text),
         _ => put_plain(page, row, word, text),
     }
