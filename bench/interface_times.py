@@ -1,7 +1,7 @@
 #!/usr/bin/env python3
-"""Times `plan` on interface files of 64 KiB to 1 MiB, all of it declarations, and so `lex` and `parse`.
+"""Times `check` on interface files of 64 KiB to 1 MiB, all of it declarations, and so `lex` and `parse`.
 
-The files are refused for their shape, after both readers. Prints, for each length, the best of the runs in
+The files are refused for a name in their first struct, after both readers. Prints, for each length, the best of the runs in
 seconds, and its ratio to the length before. Needs the built program: run rt ci once before.
 """
 
@@ -11,12 +11,7 @@ import tempfile
 from timing import best_time, print_rows, program
 
 KIBIBYTES = [64, 128, 256, 512, 1024]
-SCRIPT = """client big.tars
-interface M::Calc
-object A.B.C@tcp -h 127.0.0.1 -p 9001 -t 3000
-servant add add a b
-"""
-REFUSAL = b"refused big.tars check 11 0\n"
+REFUSAL = b"refused big.tars check 3 75\n"
 START = "module M {\n"
 END = "};\n"
 
@@ -46,11 +41,10 @@ def interface_of(length: int) -> str:
 
 
 def times(folder: pathlib.Path):
-    plan = program("tars_tool")
-    (folder / "big.plan").write_text(SCRIPT)
+    tool = program("tars_tool")
     for kibibytes in KIBIBYTES:
         (folder / "big.tars").write_text(interface_of(kibibytes * 1024))
-        yield f"{kibibytes:5} KiB", best_time([plan, "plan", "big.plan"], folder, REFUSAL), ""
+        yield f"{kibibytes:5} KiB", best_time([tool, "check", "big.tars"], folder, REFUSAL), ""
 
 
 with tempfile.TemporaryDirectory() as name:
