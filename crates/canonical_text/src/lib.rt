@@ -9,3 +9,4 @@ mod members;
 mod types;
 
 pub use blocks::print;
+pub use literals::{put_quoted, truth_word};

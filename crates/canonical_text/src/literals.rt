@@ -37,8 +37,9 @@ fn put_bytes(alloc: Global, text: &mut TextBuffer, bytes: &[u8]) -> Result<(), A
     Ok(())
 }
 
+/// Adds a text between quotation marks, with escapes.
 #[tactic(auto, unfolding(crate::specs::Canonical::quoted))]
-fn put_quoted(alloc: Global, text: &mut TextBuffer, bytes: &[u8]) -> Result<(), AllocError>
+pub fn put_quoted(alloc: Global, text: &mut TextBuffer, bytes: &[u8]) -> Result<(), AllocError>
     ensures { OnOk result (text.new ≡ text.old ++ quoted bytes.now) }
 {
     text.word("\"")?;
@@ -46,7 +47,7 @@ fn put_quoted(alloc: Global, text: &mut TextBuffer, bytes: &[u8]) -> Result<(), 
     text.word("\"")
 }
 
-fn truth_word(truth: bool) -> &'static str
+pub fn truth_word(truth: bool) -> &'static str
     ensures { result.now ≡ truth_word truth }
 {
     if truth { "true" } else { "false" }

@@ -3,11 +3,9 @@
 //! for `tars_codec`. Read `specs/Reads.antt` first, beside docs/PROTOCOL.md ("Reading members").
 #![tactic(auto)]
 
-mod copying;
 mod halt;
 mod keys;
 mod numbers;
-mod prefix;
 mod reading;
 mod refuse;
 mod seeking;

@@ -6,11 +6,10 @@ ghost use Rattle.tars_decode.specs.Reads.{most_bytes, in_range, number_value, is
 ghost use Rattle.tars_decode.specs.ReadingSteps.{Gives, type_bytes, number_at};
 
 use crate::halt::{Halt, Walk, misfit};
-use crate::prefix::split_number;
 use crate::refuse::Misfit;
 use std::alloc::Global;
 use tars_model::{Ty, Value};
-use tars_wire::WireType;
+use tars_wire::{WireType, split_number};
 
 /// The most bytes in which a number of the type may stand; None for a type without numbers.
 fn most_bytes(ty: &Ty) -> Option<u8>

@@ -4,9 +4,8 @@ ghost use Rattle.std.specs.Prelude.{◌≡◌, ◌+◌};
 ghost use Rattle.tars_decode.specs.ReadingSteps.{Gives, past_at, meet_at, turn_at, seek_at};
 
 use crate::halt::Halt;
-use crate::prefix::split_head;
 use crate::skipping::past_contents;
-use tars_wire::WireType;
+use tars_wire::{WireType, split_head};
 
 /// How the next field stands to the one of a tag.
 #[derive(Clone, Copy)]

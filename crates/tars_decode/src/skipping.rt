@@ -4,8 +4,7 @@ ghost use Rattle.std.specs.Prelude.{◌≡◌, ◌*◌, ◌<◌, ◌^◌};
 ghost use Rattle.tars_decode.specs.ReadingSteps.{Gives, MOST_TURNS, skip_at, field_past, counted_past, end_turn_at, end_at, text_past, simple_past, sized_past, kind_past, past_at};
 
 use crate::halt::Halt;
-use crate::prefix::{split_bytes, split_head, split_simple, split_size, split_text};
-use tars_wire::WireType;
+use tars_wire::{WireType, split_bytes, split_head, split_simple, split_size, split_text};
 
 /// The most fields of a struct, and one more turn for its end.
 const MOST_TURNS: u16 = 257;

@@ -38,7 +38,7 @@ fn copy_pairs(alloc: Global, pairs: &[Pair]) -> Result<List<Pair>, AllocError>
 
 /// The same value once more.
 #[cycle(copy)]
-pub(crate) fn copy_value(alloc: Global, value: &Value) -> Result<Value, AllocError>
+pub fn copy_value(alloc: Global, value: &Value) -> Result<Value, AllocError>
     ensures { IfOk result (λ copy. copy ≡ value.now) }
 {
     Ok(match value {

@@ -22,6 +22,7 @@ mod value;
 
 pub use bytes8::Bytes8;
 pub use const_desc::ConstDesc;
+pub use copying::copy_value;
 pub use decl::Decl;
 pub use defaults::{default_of, first_number};
 pub use enum_desc::{EnumDesc, Item};

@@ -23,6 +23,7 @@ pub use laws::{
     limits, no_spelling_begins_another, one_outcome, one_reading, one_remainder,
     short_is_at_the_end,
 };
+pub use prefix::{split_bytes, split_head, split_number, split_simple, split_size, split_text};
 pub use scanner::scan;
 pub use wire_fault::{WireFault, WireWhy};
 pub use wire_type::{UnknownType, WireType};

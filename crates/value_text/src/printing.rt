@@ -1,51 +1,14 @@
 //! The printed text of a value (docs/SCRIPTS.md, "Value text").
 
 ghost use Rattle.std.specs.Prelude.{◌≡◌, [], ◌++◌, true, map, OnOk, IfOk};
-ghost use Rattle.std.specs.List.{flat_map, list_all};
-ghost use Rattle.canonical_text.specs.Canonical.{byte_text, quoted, truth_word};
 ghost use Rattle.tars_model.specs.Values.{fits};
 ghost use Rattle.tars_model.specs.declared.ty.Ty.{out-Ty};
 ghost use Rattle.value_text.specs.Printed.{blob_text, listed, element_texts, entry_text, entry_texts, member_texts, list_text, map_text, struct_text, printing, entry_printing, printed};
 
+use canonical_text::{put_quoted, truth_word};
 use std::alloc::{AllocError, Global};
 use tars_model::{Member, Pair, Schema, Ty, Value};
 use text_buffer::TextBuffer;
-
-#[tactic(auto, unfolding(canonical_text::specs::Canonical::byte_text))]
-fn put_byte(alloc: Global, text: &mut TextBuffer, byte: u8) -> Result<(), AllocError>
-    ensures { OnOk result (text.new ≡ text.old ++ byte_text byte) }
-{
-    match byte {
-        b'"' | b'\\' => {
-            text.word("\\")?;
-            text.put(&[byte])
-        }
-        0x20..=0x7E => text.put(&[byte]),
-        _ => {
-            text.word("\\x")?;
-            let digits = hex::encode_upper(alloc, &[byte])?;
-            text.put(digits.as_bytes())
-        }
-    }
-}
-
-fn put_bytes(alloc: Global, text: &mut TextBuffer, bytes: &[u8]) -> Result<(), AllocError>
-    ensures { OnOk result (text.new ≡ text.old ++ flat_map byte_text bytes.now) }
-{
-    for byte in bytes {
-        put_byte(alloc, text, *byte)?;
-    }
-    Ok(())
-}
-
-#[tactic(auto, unfolding(canonical_text::specs::Canonical::quoted))]
-fn put_quoted(alloc: Global, text: &mut TextBuffer, bytes: &[u8]) -> Result<(), AllocError>
-    ensures { OnOk result (text.new ≡ text.old ++ quoted bytes.now) }
-{
-    text.word("\"")?;
-    put_bytes(alloc, text, bytes)?;
-    text.word("\"")
-}
 
 #[tactic(auto, unfolding(crate::specs::Printed::blob_text))]
 fn put_blob(alloc: Global, text: &mut TextBuffer, bytes: &[u8]) -> Result<(), AllocError>
@@ -54,12 +17,6 @@ fn put_blob(alloc: Global, text: &mut TextBuffer, bytes: &[u8]) -> Result<(), Al
     text.word("#")?;
     let digits = hex::encode_upper(alloc, bytes)?;
     text.put(digits.as_bytes())
-}
-
-fn truth_word(truth: bool) -> &'static str
-    ensures { result.now ≡ truth_word truth }
-{
-    if truth { "true" } else { "false" }
 }
 
 /// Values of one type, with `, ` between them.

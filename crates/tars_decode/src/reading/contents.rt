@@ -12,12 +12,11 @@ use super::vectors::vector_of;
 use crate::halt::{Halt, Walk, misfit};
 use crate::keys::{add, place};
 use crate::numbers::read_number;
-use crate::prefix::{split_head, split_size};
 use crate::refuse::Misfit;
 use crate::seeking::seek;
 use crate::skipping::past_end;
 use tars_model::{List, Member, Pair, Ty, Value};
-use tars_wire::WireType;
+use tars_wire::{WireType, split_head, split_size};
 
 /// What stands after a head of this type.
 #[cycle(contents)]

@@ -1,9 +1,8 @@
 ghost use Rattle.tars_decode.specs.ReadingSteps.{Gives, absent};
 
-use crate::copying::copy_value;
 use crate::halt::{Halt, Refusal};
 use std::alloc::Global;
-use tars_model::{List, Member, Value};
+use tars_model::{List, Member, Value, copy_value};
 
 /// The default of an optional member.
 #[tactic(auto, unfolding(crate::specs::ReadingSteps::absent))]

@@ -6,11 +6,10 @@ ghost use Rattle.tars_decode.specs.ReadingSteps.{Gives, text_at, is_blob, simple
 
 use super::vectors::is_byte;
 use crate::halt::{Halt, Walk, misfit};
-use crate::prefix::{split_simple, split_text};
 use crate::refuse::Misfit;
 use std::alloc::Global;
 use tars_model::{Bytes8, Ty, Value};
-use tars_wire::WireType;
+use tars_wire::{WireType, split_simple, split_text};
 
 /// A string.
 #[tactic(auto, unfolding(crate::specs::ReadingSteps::text_at))]
