@@ -3,4 +3,5 @@ pub mod Grammar
 pub mod Machine
 pub mod Scanning
 pub mod Walking
+pub mod Writing
 pub mod CallerLemmas

@@ -5,3 +5,4 @@ pub mod Faults
 pub mod ScanSteps
 pub mod Left
 pub mod PrefixSteps
+pub mod Writable

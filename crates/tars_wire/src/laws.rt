@@ -5,7 +5,9 @@ ghost use Rattle.tars_wire.specs.declared.wire_fault.WireFault.{WireFault};
 ghost use Rattle.tars_wire.specs.Faults.{IsFault, HasFault};
 ghost use Rattle.tars_wire.specs.Heads.{MAX_DEPTH, MAX_TAG, LONG_HEAD};
 ghost use Rattle.wire_words.specs.Tree.{WireValue, WireFields};
+ghost use Rattle.wire_words.specs.Spelling.{spelled_fields};
 ghost use Rattle.tars_wire.specs.Spelled.{IsBody, Spelled, SpelledField};
+ghost use Rattle.tars_wire.specs.Writable.{FieldsWritable};
 ghost use Rattle.tars_wire.specs.Left.{Standing, Remaining, IsLeft};
 
 use crate::head::{LONG_FORM, MAX_FIELD_TAG};
@@ -23,6 +25,12 @@ pub fn limits()
 #[tactic(auto, using(crate::proofs::Grammar::Extends::one_reading_law))]
 pub fn one_reading()
     ensures { (room other_room : ℕ) (bytes : List ℕ) (fields others : WireFields) → Spelled room bytes fields → Spelled other_room bytes others → fields ≡ others }
+{}
+
+/// What is spelled for fields that a body can hold is a body with these fields.
+#[tactic(auto, using(crate::proofs::Writing::Fields::spelled_law))]
+pub fn spelled_is_body()
+    ensures same_fields { (fields : WireFields) → FieldsWritable fields MAX_DEPTH 0 → All (λ byte. byte < 256) (spelled_fields fields) → Spelled MAX_DEPTH (spelled_fields fields) fields }
 {}
 
 /// No spelling of a field goes on from a spelling of a field, of whatever tag and value.

@@ -21,7 +21,7 @@ pub use cursor::Cursor;
 pub use head::Head;
 pub use laws::{
     limits, no_spelling_begins_another, one_outcome, one_reading, one_remainder,
-    short_is_at_the_end,
+    short_is_at_the_end, spelled_is_body,
 };
 pub use prefix::{split_bytes, split_head, split_number, split_simple, split_size, split_text};
 pub use scanner::scan;
