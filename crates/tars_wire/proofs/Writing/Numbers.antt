@@ -13,7 +13,7 @@ use Rattle.tars_wire.specs.Heads.{code_of}
 use Rattle.tars_wire.specs.Spelled.{Bytes, signed, Number, is_zero_tag, is_int1, is_int2, is_int4, is_int8, Size}
 use Rattle.tars_wire.specs.Writable.{IsInKind}
 use Rattle.tars_wire.proofs.Writing.Pieces.{AreBytes, bytes_spell, head_spells, Spells, one_piece}
-use Rattle.tars_wire.proofs.Writing.Shortest.{size_in_kind, size_is}
+use Rattle.tars_wire.proofs.Writing.Shortest.{shortest_in_kind, size_is}
 
 abbrev pub IsNumber : WireNumber → List ℕ → WireType → List ℕ → Type 0
 IsNumber number rest type following = Number type number following rest
@@ -60,5 +60,5 @@ number_spells (int8 n) tag rest all fits = kind_spells wire.Int8 w64 8 int8 (λ 
 pub size_spells : (n : ℕ) (rest : List ℕ) → n < 2 ^ 31 → AreBytes (spelled_size n) → Size n (spelled_size n ++ rest) rest
 unfolding spelled_size
 size_spells n rest short all =
-    let s = number_spells (shortest (pos n)) 0 rest all (size_in_kind n short) in
+    let s = number_spells (shortest (pos n)) 0 rest all (shortest_in_kind (pos n) (record { sfits = omega arith })) in
     record { type = s.type; number = shortest (pos n); following = s.following; head = s.head; contents = s.contents; size = size_is n short }

@@ -12,26 +12,38 @@ use Rattle.tars_wire.proofs.TestLemmas.{eqb_fact}
 
 -- ---- the kind that is chosen
 
+pub data IsShortest (n : ℤ) : WireNumber → Type 0 where
+  in_none : n ≡ pos 0 → IsShortest n zero_tag
+  in_one : fits_bits 128 n ≡ true → IsShortest n (int1 n)
+  in_two : fits_bits 128 n ≡ false → fits_bits 32768 n ≡ true → IsShortest n (int2 n)
+  in_four : fits_bits 128 n ≡ false → fits_bits 32768 n ≡ false → fits_bits 2147483648 n ≡ true → IsShortest n (int4 n)
+  in_eight : fits_bits 128 n ≡ false → fits_bits 32768 n ≡ false → fits_bits 2147483648 n ≡ false → IsShortest n (int8 n)
+
 abbrev larger_kinds : ℤ → WireNumber
 larger_kinds n = cond (fits_bits 128 n) (int1 n) (cond (fits_bits 32768 n) (int2 n) (cond (fits_bits 2147483648 n) (int4 n) (int8 n)))
 
-larger : (P : WireNumber → Type 0) (n : ℤ) → (fits_bits 128 n ≡ true → P (int1 n)) → (fits_bits 128 n ≡ false → fits_bits 32768 n ≡ true → P (int2 n)) → (fits_bits 32768 n ≡ false → fits_bits 2147483648 n ≡ true → P (int4 n)) → (fits_bits 2147483648 n ≡ false → P (int8 n)) → P (larger_kinds n)
-larger P n one two four eight =
-    cond_both (fits_bits 128 n) _ _ P one (λ not_one.
-    cond_both (fits_bits 32768 n) _ _ P (two not_one) (λ not_two.
-    cond_both (fits_bits 2147483648 n) _ _ P (four not_two) eight))
+larger_is : (n : ℤ) → IsShortest n (larger_kinds n)
+larger_is n =
+    cond_both (fits_bits 128 n) _ _ (IsShortest n) in_one (λ past_one.
+    cond_both (fits_bits 32768 n) _ _ (IsShortest n) (in_two past_one) (λ past_two.
+    cond_both (fits_bits 2147483648 n) _ _ (IsShortest n) (in_four past_one past_two) (in_eight past_one past_two)))
 
--- what holds of each kind, where it is chosen
-pub shortest_by : (P : WireNumber → Type 0) (n : ℤ) → (n ≡ pos 0 → P zero_tag) → (fits_bits 128 n ≡ true → P (int1 n)) → (fits_bits 128 n ≡ false → fits_bits 32768 n ≡ true → P (int2 n)) → (fits_bits 32768 n ≡ false → fits_bits 2147483648 n ≡ true → P (int4 n)) → (fits_bits 2147483648 n ≡ false → P (int8 n)) → P (shortest n)
+pub shortest_is : (n : ℤ) → IsShortest n (shortest n)
 unfolding shortest
-shortest_by P (pos n) zero one two four eight =
-    cond_both (eqb n 0) zero_tag (larger_kinds (pos n)) P (λ is. zero (ap pos (eqb_fact n 0 is))) (λ other. larger P (pos n) one two four eight)
-shortest_by P (negsuc n) zero one two four eight = larger P (negsuc n) one two four eight
+shortest_is (pos n) = cond_both (eqb n 0) zero_tag (larger_kinds (pos n)) (IsShortest (pos n)) (λ is. in_none (ap pos (eqb_fact n 0 is))) (λ other. larger_is (pos n))
+shortest_is (negsuc n) = larger_is (negsuc n)
+
+-- ---- the number that stands in it
+
+value_is : {n : ℤ} {number : WireNumber} → IsShortest n number → value_of_number number ≡ n
+value_is (in_none is) = sym is
+value_is (in_one fits) = refl
+value_is (in_two past_one fits) = refl
+value_is (in_four past_one past_two fits) = refl
+value_is (in_eight past_one past_two past_four) = refl
 
 pub shortest_value : (n : ℤ) → value_of_number (shortest n) ≡ n
-shortest_value n = shortest_by (λ k. value_of_number k ≡ n) n (λ is. sym is) (λ fits. refl) (λ past fits. refl) (λ past fits. refl) (λ past. refl)
-
--- ---- its number stands in it
+shortest_value n = value_is (shortest_is n)
 
 fits_8 : (n : ℤ) → fits_bits 128 n ≡ true → FitsSigned w8 n
 unfolding fits_bits
@@ -48,21 +60,31 @@ unfolding fits_bits
 fits_32 (pos n) e = record { sfits = ltb-true n 2147483648 e }
 fits_32 (negsuc n) e = record { sfits = ltb-true n 2147483648 e }
 
+in_kind : {n : ℤ} {number : WireNumber} → FitsSigned w64 n → IsShortest n number → IsInKind number
+in_kind {n} wide (in_none is) = tt
+in_kind {n} wide (in_one fits) = fits_8 n fits
+in_kind {n} wide (in_two past_one fits) = fits_16 n fits
+in_kind {n} wide (in_four past_one past_two fits) = fits_32 n fits
+in_kind {n} wide (in_eight past_one past_two past_four) = wide
+
 pub shortest_in_kind : (n : ℤ) → FitsSigned w64 n → IsInKind (shortest n)
-shortest_in_kind n fits = shortest_by IsInKind n (λ is. tt) (fits_8 n) (λ past. fits_16 n) (λ past. fits_32 n) (λ past. fits)
+shortest_in_kind n wide = in_kind wide (shortest_is n)
 
 -- ---- sizes
 
 zero_is : (n : ℕ) → pos n ≡ pos 0 → n ≡ 0
 zero_is n e = cc
 
-past_32 : (n : ℕ) → n < 2 ^ 31 → fits_bits 2147483648 (pos n) ≡ false → ⊥
+is_past : (n : ℕ) → n < 2 ^ 31 → fits_bits 2147483648 (pos n) ≡ false → ⊥
 unfolding fits_bits
-past_32 n short e = let past = ltb-false n 2147483648 e in omega arith
+is_past n short e = let past = ltb-false n 2147483648 e in omega arith
 
-pub size_in_kind : (n : ℕ) → n < 2 ^ 31 → IsInKind (shortest (pos n))
-size_in_kind n short = shortest_in_kind (pos n) (record { sfits = omega arith })
+is_size : (n : ℕ) {number : WireNumber} → n < 2 ^ 31 → IsShortest (pos n) number → IsSize number n
+is_size n short (in_none is) = zero_is n is
+is_size n short (in_one fits) = refl
+is_size n short (in_two past_one fits) = refl
+is_size n short (in_four past_one past_two fits) = refl
+is_size n short (in_eight past_one past_two past_four) = is_past n short past_four
 
 pub size_is : (n : ℕ) → n < 2 ^ 31 → IsSize (shortest (pos n)) n
-size_is n short =
-    shortest_by (λ k. IsSize k n) (pos n) (zero_is n) (λ fits. refl) (λ past fits. refl) (λ past fits. refl) (λ past. past_32 n short past)
+size_is n short = is_size n short (shortest_is (pos n))
