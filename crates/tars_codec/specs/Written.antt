@@ -1,7 +1,8 @@
 -- What is written for values (docs/PROTOCOL.md, "Writing").
-use Rattle.std.specs.Prelude.{◌≡◌, ℕ, nat_le, Bool, true, false, if◌then◌else◌, ℤ, pos, List, [], ◌∷◌, length, map as map_list, Result, IfOk}
+use Rattle.std.specs.Prelude.{◌≡◌, ◌<◌, ℕ, nat_le, Bool, true, false, if◌then◌else◌, ℤ, pos, List, [], ◌∷◌, length, map as map_list, Result, IfOk}
+use Rattle.std.specs.List.{All}
 use Rattle.tars_model.specs.Declarations.{Declared, members_at}
-use Rattle.tars_model.specs.Types.{TyLayer}
+use Rattle.tars_model.specs.Types.{TyLayer, type_depth, depths_of}
 use Rattle.tars_model.specs.Values.{fit_members}
 use Rattle.tars_model.specs.declared.member.Member.{Member}
 use Rattle.tars_model.specs.declared.ty.Ty.{Ty, out-Ty}
@@ -11,6 +12,7 @@ use Rattle.tars_model.specs.declared.value.Value.TheOpen as value
 use Rattle.tars_model.specs.declared.value.Pair.{Pair, Pair-F, fold-Pair}
 use Rattle.wire_words.specs.Tree.{WireValue, whole, string1, string4, simple_list, list, map, struct, WireValues, no_values, value as element, WirePairs, no_pairs, pair, WireFields, no_fields, field}
 use Rattle.wire_words.specs.Spelling.{shortest, spelled_fields}
+use Rattle.tars_wire.specs.Heads.{MAX_DEPTH}
 
 -- what stands for a value, over what is declared and under its type
 abbrev pub Writing : Type 0
@@ -83,6 +85,11 @@ fields_of d members values = wire_members d members (map_list wire_value values)
 -- the one spelling of values under members
 unfoldable pub written : Declared → List Member → List Value → List ℕ
 written d members values = spelled_fields (fields_of d members values)
+
+-- Values of the members' types are less deep than a body may be (docs/PROTOCOL.md, "Reading"). A level is spare, for a
+-- struct that is not declared: it is written as an empty one, and `type_depth` counts nothing for it.
+abbrev pub AreShallow : Declared → List Member → Type 0
+AreShallow d members = All (λ (m : Member). type_depth (depths_of d.structs) m.ty < MAX_DEPTH) members
 
 -- bytes were written for some values under the members
 abbrev pub WereWritten : Declared → List Member → List ℕ → Type 0
