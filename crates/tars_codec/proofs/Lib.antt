@@ -9,4 +9,5 @@ pub mod Pieces
 pub mod Maps
 pub mod Values
 pub mod Loops
+pub mod ReadBack
 pub mod CallerLemmas
