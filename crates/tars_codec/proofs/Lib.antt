@@ -1,13 +1,8 @@
-pub mod Heads
-pub mod Numbers
 pub mod Shortest
-pub mod Fields
-pub mod Contents
+pub mod Sizes
 pub mod Layers
 pub mod Fitting
 pub mod Pieces
-pub mod Maps
-pub mod Values
-pub mod Loops
+pub mod Adding
 pub mod ReadBack
 pub mod CallerLemmas

@@ -10,11 +10,11 @@ use Rattle.wire_words.specs.Tree.{WireNumber, zero_tag, int1, int2, int4, int8}
 use Rattle.wire_words.specs.Spelling.{fits_bits, shortest}
 
 -- how far a number is from 0, or from -1
-abbrev pub mag : ℤ → ℕ
+abbrev mag : ℤ → ℕ
 mag (pos n) = n
 mag (negsuc n) = n
 
-pub fits_from : (w : Width) (n : ℤ) → mag n < 2 ^ hbits w → FitsSigned w n
+fits_from : (w : Width) (n : ℤ) → mag n < 2 ^ hbits w → FitsSigned w n
 fits_from w (pos n) lt = record { sfits = lt }
 fits_from w (negsuc n) lt = record { sfits = lt }
 
@@ -23,10 +23,10 @@ mag_below w (pos n) fits = fits.sfits
 mag_below w (negsuc n) fits = fits.sfits
 
 -- the kinds but the zero tag
-abbrev pub kinds : ℤ → WireNumber
+abbrev kinds : ℤ → WireNumber
 kinds n = cond (ltb (mag n) 128) (int1 n) (cond (ltb (mag n) 32768) (int2 n) (cond (ltb (mag n) 2147483648) (int4 n) (int8 n)))
 
-pub shortest_kinds : (n : ℤ) → (cast_unsigned w64 n ≡ 0 → ⊥) → shortest n ≡ kinds n
+shortest_kinds : (n : ℤ) → (cast_unsigned w64 n ≡ 0 → ⊥) → shortest n ≡ kinds n
 unfolding shortest fits_bits
 shortest_kinds (pos n) other = rw (ne_eqb n 0 other) refl
 shortest_kinds (negsuc n) other = refl

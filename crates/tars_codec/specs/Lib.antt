@@ -1,4 +1,3 @@
-pub mod WireType
 pub mod Written
-pub mod PacketTypes
-pub mod Reading
+pub mod Spellings
+pub mod Rooms

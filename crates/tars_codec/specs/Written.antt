@@ -1,9 +1,8 @@
 -- What is written for values (docs/PROTOCOL.md, "Writing").
-use Rattle.std.specs.Prelude.{◌≡◌, ◌<◌, ℕ, nat_le, Bool, true, false, if◌then◌else◌, ℤ, pos, List, [], ◌∷◌, length, map as map_list, Result, IfOk}
+use Rattle.std.specs.Prelude.{ℕ, ◌<◌, nat_le, Bool, true, false, if◌then◌else◌, ℤ, pos, List, [], ◌∷◌, length, map as map_list}
 use Rattle.std.specs.List.{All}
 use Rattle.tars_model.specs.Declarations.{Declared, members_at}
 use Rattle.tars_model.specs.Types.{TyLayer, type_depth, depths_of}
-use Rattle.tars_model.specs.Values.{fit_members}
 use Rattle.tars_model.specs.declared.member.Member.{Member}
 use Rattle.tars_model.specs.declared.ty.Ty.{Ty, out-Ty}
 use Rattle.tars_model.specs.declared.ty.Ty.TheOpen as ty
@@ -86,16 +85,10 @@ fields_of d members values = wire_members d members (map_list wire_value values)
 unfoldable pub written : Declared → List Member → List Value → List ℕ
 written d members values = spelled_fields (fields_of d members values)
 
--- Values of the members' types are less deep than a body may be (docs/PROTOCOL.md, "Reading"). A level is spare, for a
--- struct that is not declared: it is written as an empty one, and `type_depth` counts nothing for it.
+-- Values of a member's type are no deeper than a body may be (docs/PROTOCOL.md, "Reading"). One level is left, since a
+-- struct that is not declared is written as an empty one, and `type_depth` counts no level for it.
+abbrev pub IsShallow : Declared → Member → Type 0
+IsShallow d m = type_depth (depths_of d.structs) m.ty < MAX_DEPTH
+
 abbrev pub AreShallow : Declared → List Member → Type 0
-AreShallow d members = All (λ (m : Member). type_depth (depths_of d.structs) m.ty < MAX_DEPTH) members
-
--- bytes were written for some values under the members
-abbrev pub WereWritten : Declared → List Member → List ℕ → Type 0
-WereWritten d members bytes = (values : List Value) × (fit_members d members values ≡ true) × (bytes ≡ written d members values)
-
--- the values that bytes were written for are what is read, unless there is an error
-abbrev pub ReadsWritten : {E : Type 0} → Declared → List Member → List ℕ → Result (List Value) E → Type 0
-ReadsWritten d members bytes result =
-    (values : List Value) → fit_members d members values ≡ true → bytes ≡ written d members values → IfOk result (λ read. read ≡ values)
+AreShallow d members = All (IsShallow d) members
