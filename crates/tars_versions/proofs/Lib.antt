@@ -1,5 +1,7 @@
 pub mod Induction
-pub mod Numbers
+pub mod NumberLaws
 pub mod EachKind
 pub mod Said
 pub mod Projection
+pub mod Merging
+pub mod Lengths

@@ -26,7 +26,7 @@ use Rattle.tars_codec.proofs.CallerLemmas.{bool_wire, num_wire, text_wire, blob_
 use Rattle.tars_codec.proofs.Layers.{wire_entry_out}
 use Rattle.tars_versions.specs.Projected.{Projecting, project_elements, list_under, project_entries, map_under, held, struct_under, projected, projected_entry, project_members}
 use Rattle.tars_versions.proofs.Induction.{AllOf, OfPair, each_value}
-use Rattle.tars_versions.proofs.Numbers.{number_said, numbers_are_longs}
+use Rattle.tars_versions.proofs.NumberLaws.{number_said, numbers_are_longs}
 use Rattle.tars_versions.proofs.EachKind.{projected_entry_out, bool_projected, num_projected, text_projected, blob_projected, list_projected, map_projected, struct_projected}
 use Rattle.tars_versions.proofs.Said.{Agree, members_agree}
 

@@ -1,2 +1,5 @@
+pub mod Agreement
+pub mod AgreementSteps
 pub mod Decoded
 pub mod Projected
+pub mod Reasons
