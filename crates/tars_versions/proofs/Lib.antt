@@ -5,3 +5,8 @@ pub mod Said
 pub mod Projection
 pub mod Merging
 pub mod Lengths
+pub mod Ranges
+pub mod SchemaTypes
+pub mod KeyTypes
+pub mod Accepting
+pub mod Levels

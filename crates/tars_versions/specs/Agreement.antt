@@ -1,7 +1,10 @@
 -- Whether a new version can refuse values of an old one (docs/PROTOCOL.md, "Compatibility").
 use Rattle.std.specs.Prelude.{ℕ, zero, suc, ◌-◌, ◌^◌, Bool, false, ◌&&◌, not, ◌==◌, if◌then◌else◌, ℤ, pos, negsuc, Option, Some, None, List, [], ◌∷◌}
 use Rattle.std.specs.Int.Signed.{le_z}
+use Rattle.std.specs.List.{All}
 use Rattle.tars_model.specs.Declarations.{Declared, members_at}
+use Rattle.tars_model.specs.Members.{HaveRisingTags}
+use Rattle.tars_model.specs.Schemas.{IsTypeIn}
 use Rattle.tars_model.specs.Types.{TyLayer}
 use Rattle.tars_model.specs.Values.{is_byte}
 use Rattle.tars_model.specs.declared.member.Member.{Member}
@@ -106,7 +109,7 @@ unfoldable pub agree_within : ℕ → Declared → Declared → Ty → Ty → Ag
 agree_within zero d d' t t' = mismatch
 agree_within (suc levels) d d' t t' = agree_by (agree_within levels d d') d d' (out-Ty t) (out-Ty t')
 
--- one more than the greatest depth of a type of a schema
+-- one more than the greatest depth of a type of a schema, so that none has more
 abbrev pub MAX_LEVELS : ℕ
 MAX_LEVELS = 33
 
@@ -117,3 +120,8 @@ agrees d d' = agree_within MAX_LEVELS d d'
 -- old members and new ones
 abbrev pub versions_agree : Declared → List Member → Declared → List Member → Agreement
 versions_agree d members d' members' = members_agree (agrees d d') members members'
+
+-- members that may be compared with those of another version: their tags rise, and their types are over what is declared
+pub record IsVersion (d : Declared) (members : List Member) : Type 0 where
+  pub rising : HaveRisingTags members
+  pub types : All (λ (m : Member). IsTypeIn d m.ty) members

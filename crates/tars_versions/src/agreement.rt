@@ -1,11 +1,14 @@
 //! Whether a new version can refuse values of an old one.
 
-ghost use Rattle.std.specs.Prelude.{◌≡◌, ◌≤◌, ◌<◌, ◌↔◌, true, false, length, IfErr};
+ghost use Rattle.std.specs.Prelude.{◌≡◌, ◌≤◌, ◌<◌, ◌↔◌, true, false, List, length, IfErr, IsOk};
 ghost use Rattle.tars_model.specs.Declarations.{members_at};
 ghost use Rattle.tars_model.specs.Members.{HaveRisingTags};
+ghost use Rattle.tars_model.specs.Values.{fit_members};
 ghost use Rattle.tars_model.specs.declared.ty.Ty.{out-Ty};
-ghost use Rattle.tars_versions.specs.Agreement.{Agreement, agree, differ, at_step, agree_within, agree_by, elements_agree, entries_agree, member_agrees, members_agree, versions_agree};
+ghost use Rattle.tars_model.specs.declared.value.Value.{Value};
+ghost use Rattle.tars_versions.specs.Agreement.{Agreement, agree, differ, at_step, agree_within, agree_by, elements_agree, entries_agree, member_agrees, members_agree, versions_agree, IsVersion};
 ghost use Rattle.tars_versions.specs.AgreementSteps.{Tells, from_tag, first_with};
+ghost use Rattle.tars_versions.specs.Projected.{project_members};
 
 use crate::numbers::takes_numbers;
 use crate::path::Path;
@@ -160,8 +163,9 @@ fn member_agrees(versions: &Versions, levels: u8, old: &[Member], new: &Member) 
     }
 }
 
-/// Whether a new version can refuse no values of an old one. Where it can, or may, `reason` becomes the first reason in
-/// the order of the tags, the reasons inside a member before those of the next.
+/// Whether a new version agrees with an old one: then it refuses no value of the old one. Else `reason` becomes the
+/// first reason, in the order of the tags and the reasons inside a member before those of the next.
+#[tactic(auto, using(crate::proofs::Accepting::Values::no_value_is_refused))]
 pub fn compatible(
     old: &Schema,
     old_members: &[Member],
@@ -169,14 +173,19 @@ pub fn compatible(
     new_members: &[Member],
     reason: &mut Path,
 ) -> bool
-    requires old_rise { HaveRisingTags old_members.now }
-    requires new_rise { HaveRisingTags new_members.now }
+    requires old { IsVersion old.now old_members.now }
+    requires new { IsVersion new.now new_members.now }
     // True exactly where the versions agree.
     ensures agree { (result ≡ true) ↔ (versions_agree old.now old_members.now new.now new_members.now ≡ agree) }
-    // Else the reason is the first one.
+    // Where they do not, the first reason is told.
     ensures reason { result ≡ false → versions_agree old.now old_members.now new.now new_members.now ≡ differ reason.new }
     ensures kept { result ≡ true → reason.new ≡ reason.old }
+    // Where they do, a reader of the new version refuses no values of the old one.
+    ensures accepts { result ≡ true → (values : List Value) → fit_members old.now old_members.now values ≡ true → IsOk (project_members old.now old_members.now values new.now new_members.now) }
 {
+    // What a schema declares keeps the rules.
+    let _old_order = old.order();
+    let _new_order = new.order();
     let versions = Versions { old, new };
     match members_agree(&versions, MAX_LEVELS, old_members, new_members) {
         Ok(()) => true,

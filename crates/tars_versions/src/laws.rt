@@ -11,6 +11,9 @@ ghost use Rattle.tars_decode.specs.Reads.{reads};
 ghost use Rattle.tars_decode.specs.Decoding.{Answers};
 ghost use Rattle.tars_decode.specs.declared.refuse.Refuse.{Refuse};
 ghost use Rattle.tars_codec.specs.Written.{fields_of};
+ghost use Rattle.tars_model.specs.Schemas.{IsSchema, IsTypeIn};
+ghost use Rattle.tars_model.specs.declared.ty.Ty.{Ty, out-Ty};
+ghost use Rattle.tars_versions.specs.Agreement.{agree_by, agrees};
 ghost use Rattle.tars_versions.specs.Decoded.{IsDecoded};
 ghost use Rattle.tars_versions.specs.Projected.{project_members};
 
@@ -21,4 +24,11 @@ pub fn decoding_projects()
     ensures reads { (old : Declared) (old_members : List Member) (values : List Value) (new : Declared) (new_members : List Member) → fit_members old old_members values ≡ true → reads new new_members (fields_of old old_members values) ≡ project_members old old_members values new new_members }
     // So bytes that spell these fields are decoded to it.
     ensures decoded { (old : Declared) (old_members : List Member) (values : List Value) (new : Declared) (new_members : List Member) (bytes : List ℕ) (result : Result (List Value) Refuse) → fit_members old old_members values ≡ true → Spelled MAX_DEPTH bytes (fields_of old old_members values) → IsDecoded bytes new new_members result → Answers result (project_members old old_members values new new_members) }
+{}
+
+/// Agreement follows its rules: how types agree is told by how those inside them do. (`agrees` counts levels; no type of
+/// a schema has more of them.)
+#[tactic(auto, using(crate::proofs::Levels::agreement_by_rules))]
+pub fn agreement_follows_rules()
+    ensures { (old new : Declared) (old_type new_type : Ty) → IsSchema old → IsTypeIn old old_type → agrees old new old_type new_type ≡ agree_by (agrees old new) old new (out-Ty old_type) (out-Ty new_type) }
 {}
