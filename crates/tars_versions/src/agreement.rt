@@ -77,14 +77,10 @@ fn kinds_agree(versions: &Versions, levels: u8, old: &Ty, new: &Ty) -> Result<()
             new.get(),
         ),
         (Ty::Map(old_key, old_value), Ty::Map(new_key, new_value)) => {
-            in_step(
-                0,
-                types_agree(versions, levels, old_key.get(), new_key.get()),
-            )?;
-            in_step(
-                1,
-                types_agree(versions, levels, old_value.get(), new_value.get()),
-            )
+            let keys = types_agree(versions, levels, old_key.get(), new_key.get());
+            in_step(0, keys)?;
+            let values = types_agree(versions, levels, old_value.get(), new_value.get());
+            in_step(1, values)
         }
         (Ty::Struct(old), Ty::Struct(new)) => structs_agree(versions, levels, *old, *new),
         _ => {

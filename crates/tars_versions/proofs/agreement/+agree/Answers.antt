@@ -14,11 +14,11 @@ elements_agree-in_step-requires t c =
 
 pub kinds_agree-in_step-requires : goal.kinds_agree-in_step-requires
 kinds_agree-in_step-requires t c =
-    room_for_step c.types_agree.result c.args.levels c.args.versions.now.old.now c.args.versions.now.new.now c.get-in-Map-Map.result.now c.get-in-Map-Map-2.result.now (omega arith) c.types_agree.ensures
+    room_for_step c.types_agree-keys.result c.args.levels c.args.versions.now.old.now c.args.versions.now.new.now c.get-in-Map-Map.result.now c.get-in-Map-Map-2.result.now (omega arith) c.types_agree-keys.ensures
 
 pub kinds_agree-in_step-requires-in-Map-Map : goal.kinds_agree-in_step-requires-in-Map-Map
 kinds_agree-in_step-requires-in-Map-Map t c =
-    room_for_step c.types_agree-in-Map-Map.result c.args.levels c.args.versions.now.old.now c.args.versions.now.new.now c.get-in-Map-Map-3.result.now c.get-in-Map-Map-4.result.now (omega arith) c.types_agree-in-Map-Map.ensures
+    room_for_step c.types_agree-values.result c.args.levels c.args.versions.now.old.now c.args.versions.now.new.now c.get-in-Map-Map-3.result.now c.get-in-Map-Map-4.result.now (omega arith) c.types_agree-values.ensures
 
 pub member_agrees-in_step-requires : goal.member_agrees-in_step-requires
 member_agrees-in_step-requires t c =
