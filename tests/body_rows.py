@@ -15,62 +15,27 @@ from rows.body_maker import changed, some_fields, some_value
 from rows.body_reader import Body, Malformed, Refused, members_of
 from rows.nested_bodies import MAPS, STRUCTS, VECTORS
 from rows.single_bodies import SIGNED, TEXTS, UNSIGNED, Family
-from rows.tables import File, Map, Struct, Table, Vector, varied
-
-# How much is shown of a text.
-SHOWN = 42
-
-
-# ---- what a body comes to, as law_tables prints it
-
-
-def short(shown: str, length: int) -> str:
-    return shown if len(shown) <= SHOWN else f"{shown[:SHOWN]}.. of {length}"
-
-
-def plain_text(value: bytes) -> str:
-    try:
-        return value.decode()
-    except UnicodeDecodeError:
-        return "?"
-
-
-def shown(kind, value) -> str:
-    """A value; `?` where law_tables shows nothing of it."""
-    match kind:
-        case "string":
-            return f'"{short(plain_text(value), len(value))}"'
-        case Vector("byte"):
-            return f"[{short(value.hex().upper(), len(value))}]"
-        case "bool" | Vector() | Map() | Struct():
-            return "?"
-    return str(value)
-
-
-def shown_member(kind, value) -> str:
-    if isinstance(kind, Map):
-        return "map" + "".join(f" {shown(kind.key, key)}={shown(kind.to, of)}" for key, of in value)
-    return shown(kind, value)
+from rows.tables import File, Table, varied
+from rows.value_reader import printed
 
 
 def outcome(file: str, body: bytes) -> str:
-    members = File(file).last_struct().members
+    """What a body comes to, as law_tables prints it."""
+    struct = File(file).last_struct()
     try:
-        values = members_of(members, Body(body).fields())
+        values = members_of(struct.members, Body(body).fields())
     except Malformed as fault:
         reason, at = fault.args
         return f"malformed {reason:d} at {at}"
     except Refused as refused:
         why, path = refused.args
         return " ".join([why, *map(str, path)])
-    return ", ".join(shown_member(member.type, value) for member, value in zip(members, values))
+    return printed(struct, values)
 
 
 def rows_of(file: str, bodies: list) -> list:
     """A row for each body in hexadecimal digits, with what it comes to."""
-    made = [(f"decode {file} => {body.upper()}", outcome(file, bytes.fromhex(body))) for body in bodies]
-    # A text with a line feed would be shown in two lines.
-    return [(row, line) for row, line in made if line.isprintable()]
+    return [(f"decode {file} => {body.upper()}", outcome(file, bytes.fromhex(body))) for body in bodies]
 
 
 # ---- at random
@@ -78,9 +43,7 @@ def rows_of(file: str, bodies: list) -> list:
 
 def sort_of(line: str) -> str:
     """A value, a refusal by its words, or a malformed body by its reason."""
-    if line.startswith("malformed"):
-        return line.split(" at ")[0]
-    return "".join(word for word in line.split(" ") if word in ("wrong", "out", "twice", "missing"))
+    return line.split(" at ")[0] if line.startswith("malformed") else line[0]
 
 
 def add_random(table: Table, seed: int, files: list) -> None:

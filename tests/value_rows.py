@@ -27,7 +27,8 @@ TEXTS = [
     r'"\x5c\x22"',
 ]
 NO_TEXTS = [
-    *['"', '"a', '"\\', '"\\"', "", "a", "'a'", '"a" "b"', '"a"b', '"""', '"\t"', '"\x7f"', '"é"'],
+    *['"', '"a', '"\\', '"\\"', "", "a", "'a'", '"a" "b"', '"a"b', '"""'],
+    *['"\t"', '"\n"', '"\0"', '"\x1f"', '"\x7f"', '"é"'],
     *[r'"\n"', r'"\t"', r'"\0"', r'"\X41"', r'"\x"', r'"\x4"', r'"\x4g"', r'"\xg4"', r'"\x 41"', r'"\x4 1"', r'"\ "'],
 ]
 BLOBS = [
@@ -98,8 +99,13 @@ def outcome(file: str, text: str) -> str:
     return f"{printed(struct, value)} of {reader.at}"
 
 
+def in_row(text: str) -> str:
+    """A text as a row has it: printable bytes as themselves, the others and `~` as `~xHH`."""
+    return "".join(f"~x{byte:02X}" if byte == ord("~") or not 32 <= byte < 127 else chr(byte) for byte in text.encode())
+
+
 def rows_of(file: str, texts: list) -> list:
-    return [(f"value {file} => {text}", outcome(file, text)) for text in texts]
+    return [(f"value {file} => {in_row(text)}", outcome(file, text)) for text in texts]
 
 
 def member(word: str, texts: list, more: str = "") -> list:
@@ -161,7 +167,10 @@ def add_nested(table: Table) -> None:
 
 def add_places(table: Table) -> None:
     table.group("A space may stand between tokens, and nowhere else.", rows_of(ALL, put_in(ALL_TEXT, " ")))
-    table.group("A tab may not.", rows_of(SOME, put_in(SOME_TEXT, "\t")))
+    table.group("A line feed too.", rows_of(SOME, put_in(SOME_TEXT, "\n")))
+    table.group("Several of them.", rows_of(SOME, put_in(SOME_TEXT, " \n\n  ")))
+    for blank in ("\t", "\r"):
+        table.group("No other blank.", rows_of(SOME, put_in(SOME_TEXT, blank)))
     for file, text in CUT:
         cut = [text[:end] for end in range(len(text) + 1)]
         table.group("A value that is cut off at each byte.", rows_of(file, cut))
@@ -184,7 +193,7 @@ def add_random(table: Table, seed: int) -> None:
 
 
 if __name__ == "__main__":
-    title = 'Texts of values (docs/SCRIPTS.md, "Value text"): `value FILE => TEXT`, as values.rows has them.'
+    title = 'Texts of values (docs/SCRIPTS.md, "Value text"): `value FILE => TEXT`, where `~xHH` is a byte.'
     TABLE = Table("value_texts.rows", [title, "Made by tests/value_rows.py."])
     add_single(TABLE)
     add_nested(TABLE)

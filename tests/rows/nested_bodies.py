@@ -36,7 +36,7 @@ MIXED = file_of("4 require vector<map<byte,vector<A>>> x;", PAIR)
 BAD_PAIRS = [struct(0), struct(0, "060161"), struct(0, "0C", "1005"), struct(0, "0C", "2C"), struct(0, "0C", "2C0C")]
 VECTORS = Family(
     "vector_bodies.rows",
-    "Vectors other than vector<byte>, shown as `?`,",
+    "Vectors other than vector<byte>",
     [
         *(element_group(*element) for element in ELEMENTS),
         ("No other field is a vector.", INTS, others(Wire.LIST)),

@@ -37,7 +37,7 @@ SIGNED = Family(
     "signed_bodies.rows",
     "Bools and whole numbers with a sign",
     [
-        *number_groups("bool", "zero tag and int1; every number but 0 is true (a bool is shown as `?`)."),
+        *number_groups("bool", "zero tag and int1; every number but 0 is true."),
         *number_groups("byte", "zero tag and int1."),
         *number_groups("short", "zero tag to int2."),
         *number_groups("int", "zero tag to int4."),

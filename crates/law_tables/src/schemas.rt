@@ -68,8 +68,11 @@ pub fn put_decode(page: &mut Page, text: &str) {
     }
 }
 
-/// `value FILE => TEXT`: the value of the last struct that stands at the start of a text.
+/// `value FILE => TEXT`: the value of the last struct that stands at the start of what the text stands for.
 pub fn put_value(page: &mut Page, text: &str) {
     let (file, value) = two_texts(text);
-    put_file(page, file.as_bytes(), Asked::Text(value.as_bytes()));
+    match bytes_of(page.alloc(), value) {
+        Ok(bytes) => put_file(page, file.as_bytes(), Asked::Text(&bytes)),
+        Err(_) => page.fail(),
+    }
 }

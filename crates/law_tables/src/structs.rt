@@ -78,8 +78,18 @@ fn put_decoded(page: &mut Page, schema: &Schema, number: u32, bytes: &[u8]) {
     // What a schema declares keeps the rules.
     let _ = schema.order();
     match decode(page.alloc(), schema, schema.members_at(number), bytes) {
-        Ok(values) => put_values(page, values.as_slice()),
+        Ok(values) => put_text(page, schema, &Ty::Struct(number), &Value::Struct(values)),
         Err(refuse) => put_refuse(page, &refuse),
+    }
+}
+
+/// Adds a value as it is printed.
+fn put_text(page: &mut Page, schema: &Schema, ty: &Ty, value: &Value)
+    requires { fits_type schema.now ty.now value.now ≡ true }
+{
+    match print_value(page.alloc(), schema, ty, value) {
+        Ok(text) => page.add(str::from_utf8(&text).unwrap_or("?")),
+        Err(_) => page.fail(),
     }
 }
 
@@ -87,10 +97,7 @@ fn put_decoded(page: &mut Page, schema: &Schema, number: u32, bytes: &[u8]) {
 fn put_printed(page: &mut Page, schema: &Schema, ty: &Ty, value: &Value, taken: usize)
     requires { fits_type schema.now ty.now value.now ≡ true }
 {
-    match print_value(page.alloc(), schema, ty, value) {
-        Ok(text) => page.add(str::from_utf8(&text).unwrap_or("?")),
-        Err(_) => page.fail(),
-    }
+    put_text(page, schema, ty, value);
     page.show(format_args!(" of {taken}"));
 }
 
