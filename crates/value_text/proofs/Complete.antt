@@ -13,11 +13,11 @@ use Rattle.tars_model.specs.declared.value.Value.{Value, out-Value}
 use Rattle.tars_model.specs.declared.value.Value.TheVariants as values
 use Rattle.value_text.specs.ReadSteps.{Read, Stop, text_at, blob_at}
 use Rattle.value_text.specs.ValueSteps.{place_at, as_entry, elements_at, list_at, entry_at, entries_at, map_at, field_at, comma_at, fields_at, struct_at, vector_at, value_by, value_at}
-use Rattle.value_text.specs.Spelling.{past_gap, Comma, Placed, Spells, Elements, Entries, Entry, Members, TextSpells, BlobSpells}
+use Rattle.value_text.specs.Spelling.{past_gap, Comma, Placed, SpellsBy, ElementsBy, EntriesBy, EntryBy, MembersBy, TextSpells, BlobSpells, ALL}
 use Rattle.value_text.specs.Spelling as spelling
 use Rattle.value_text.proofs.Keys.{place_is, insert_between}
 use Rattle.value_text.proofs.MapSound.{made_key}
-use Rattle.value_text.proofs.Opening.{value_opens, no_bracket, no_brace, number_of_type, truth_is_read}
+use Rattle.value_text.proofs.Opening.{elements_open, entries_open, no_bracket, no_brace, number_of_type, truth_is_read}
 use Rattle.value_text.proofs.Signs.{read_ok, byte_is_read, sign_is_read, word_is_read, closing_is_read, comma_is_read, past_gap_shorter}
 use Rattle.value_text.proofs.Sizes.{value_shorter, entry_shorter, comma_shorter}
 use Rattle.value_text.proofs.TextLaws.{text_is_read, blob_is_read}
@@ -30,7 +30,7 @@ read_blob : (s bytes inside rest : List ℕ) → bytes ≡ 35 ∷ inside → Blo
 unfolding blob_at
 read_blob s bytes inside rest text inner = rw (byte_is_read 35 bytes inside text, blob_is_read (length inside + 1) inner (omega arith)) refl
 
-comma_read : (ms : List Member) (bytes rest : List ℕ) → Comma ms bytes rest → comma_at ms bytes ≡ Ok rest
+pub comma_read : (ms : List Member) (bytes rest : List ℕ) → Comma ms bytes rest → comma_at ms bytes ≡ Ok rest
 comma_read [] bytes rest is = ap (λ (r : List ℕ). okay r) (sym is)
   where
     okay : List ℕ → Result (List ℕ) Stop
@@ -68,22 +68,11 @@ whole_struct : (f : Ty → List ℕ → Read Value) (ms : List Member) (vs : Lis
 unfolding struct_at
 whole_struct f ms vs bytes inside rest text h = rw (sign_is_read 40 bytes inside text, h) refl
 
-a_list : (f : Ty → List ℕ → Read Value) (of : Ty) (bytes : List ℕ) → is_byte (out-Ty of) ≡ false → vector_at f of bytes ≡ list_at (f of) bytes
+pub a_list : (f : Ty → List ℕ → Read Value) (of : Ty) (bytes : List ℕ) → is_byte (out-Ty of) ≡ false → vector_at f of bytes ≡ list_at (f of) bytes
 a_list f of bytes other = rw other refl
 
 a_blob : (f : Ty → List ℕ → Read Value) (of : Ty) (bytes : List ℕ) → is_byte (out-Ty of) ≡ true → vector_at f of bytes ≡ blob_at bytes
 a_blob f of bytes byte = rw byte refl
-
-elements_open : {d : Declared} {of : Ty} {vs : List Value} {bytes rest : List ℕ} → Elements d of vs bytes rest → begins (λ b. b == 93) bytes ≡ false
-elements_open {bytes = bytes} (spelling.last_element next is closes) = no_bracket bytes (value_opens is)
-elements_open {bytes = bytes} (spelling.more_elements next inside is comma others) = no_bracket bytes (value_opens is)
-
-entry_opens : {d : Declared} {key to : Ty} {p : Pair} {bytes rest : List ℕ} → Entry d key to p bytes rest → begins (λ b. b == 125) bytes ≡ false
-entry_opens {bytes = bytes} (spelling.entry k v colon start p_is key_is sign value_is) = no_brace bytes (value_opens key_is)
-
-entries_open : {d : Declared} {key to : Ty} {ps : List Pair} {bytes rest : List ℕ} → Entries d key to ps bytes rest → begins (λ b. b == 125) bytes ≡ false
-entries_open (spelling.last_entry next is closes) = entry_opens is
-entries_open (spelling.more_entries next inside is comma others) = entry_opens is
 
 -- one element, and what follows it
 module _ (f : List ℕ → Read Value) (v : Value) (count : ℕ) (bytes next rest : List ℕ) (is : f bytes ≡ Ok (v, next)) where
@@ -128,16 +117,16 @@ no_member_read : (f : Ty → List ℕ → Read Value) (bytes rest : List ℕ) �
 unfolding fields_at
 no_member_read f bytes rest is = rw (byte_is_read 41 bytes rest is) refl
 
-some_element : {d : Declared} {of : Ty} {vs : List Value} {bytes rest : List ℕ} → Elements d of vs bytes rest → length bytes ≤ 0 → ⊥
+some_element : {d : Declared} {of : Ty} {vs : List Value} {bytes rest : List ℕ} → ElementsBy ALL d of vs bytes rest → length bytes ≤ 0 → ⊥
 some_element (spelling.last_element next is closes) none = let less = value_shorter is in omega arith
 some_element (spelling.more_elements next inside is comma others) none = let less = value_shorter is in omega arith
 
-some_entry : {d : Declared} {key to : Ty} {ps : List Pair} {bytes rest : List ℕ} → Entries d key to ps bytes rest → length bytes ≤ 0 → ⊥
+some_entry : {d : Declared} {key to : Ty} {ps : List Pair} {bytes rest : List ℕ} → EntriesBy ALL d key to ps bytes rest → length bytes ≤ 0 → ⊥
 some_entry (spelling.last_entry next is closes) none = let less = entry_shorter is in omega arith
 some_entry (spelling.more_entries next inside is comma others) none = let less = entry_shorter is in omega arith
 
 mutual
-  pub value_is_read : (room : ℕ) {d : Declared} {t : Ty} {v : Value} {bytes rest : List ℕ} → Spells d t v bytes rest → length bytes ≤ room → value_at room d t bytes ≡ Ok (v, rest)
+  pub value_is_read : (room : ℕ) {d : Declared} {t : Ty} {v : Value} {bytes rest : List ℕ} → SpellsBy ALL d t v bytes rest → length bytes ≤ room → value_at room d t bytes ≡ Ok (v, rest)
   value_is_read zero s within = let less = value_shorter s in absurd (omega arith)
   value_is_read (suc room) {d = d} {t = t} {v = v} {bytes = bytes} {rest = rest} (spelling.truth b is v_is text) within =
       at_layer room d t v bytes rest ty.Bool (values.Bool b) is v_is (truth_is_read b bytes rest text)
@@ -153,7 +142,7 @@ mutual
       let gap = past_gap_shorter inside in
       let len = ap length text in
       at_layer room d t v bytes rest (ty.Vector of) (values.List vs) is v_is
-      (a_list (value_at room d) of bytes other ∙ full_list (value_at room d of) vs bytes inside rest text (elements_open inner)
+      (a_list (value_at room d) of bytes other ∙ full_list (value_at room d of) vs bytes inside rest text (no_bracket (past_gap inside) (elements_open inner))
       (elements_are_read room inner (omega arith) (length (past_gap inside)) (omega arith)))
   value_is_read (suc room) {d = d} {t = t} {v = v} {bytes = bytes} {rest = rest} (spelling.no_entries key to inside is v_is text closes) within =
       at_layer room d t v bytes rest (ty.Map key to) (values.Map []) is v_is (empty_map (value_at room d key) (value_at room d to) bytes inside rest text closes)
@@ -161,7 +150,7 @@ mutual
       let gap = past_gap_shorter inside in
       let len = ap length text in
       at_layer room d t v bytes rest (ty.Map key to) (values.Map all) is v_is
-      (full_map (value_at room d key) (value_at room d to) all bytes inside rest text (entries_open inner)
+      (full_map (value_at room d key) (value_at room d to) all bytes inside rest text (no_brace (past_gap inside) (entries_open inner))
       (entries_are_read room inner placed (omega arith) (length (past_gap inside)) (omega arith)))
   value_is_read (suc room) {d = d} {t = t} {v = v} {bytes = bytes} {rest = rest} (spelling.members k vs inside is v_is text inner) within =
       let gap = past_gap_shorter inside in
@@ -169,7 +158,7 @@ mutual
       at_layer room d t v bytes rest (ty.Struct k) (values.Struct vs) is v_is
       (whole_struct (value_at room d) (members_at d k) vs bytes inside rest text (members_are_read room inner (omega arith)))
 
-  elements_are_read : (room : ℕ) {d : Declared} {of : Ty} {vs : List Value} {bytes rest : List ℕ} → Elements d of vs bytes rest → length bytes ≤ room → (count : ℕ) → length bytes ≤ count → elements_at (value_at room d of) count bytes ≡ Ok (vs, rest)
+  elements_are_read : (room : ℕ) {d : Declared} {of : Ty} {vs : List Value} {bytes rest : List ℕ} → ElementsBy ALL d of vs bytes rest → length bytes ≤ room → (count : ℕ) → length bytes ≤ count → elements_at (value_at room d of) count bytes ≡ Ok (vs, rest)
   elements_are_read room els within zero few = absurd (some_element els few)
   elements_are_read room {d = d} {of = of} {bytes = bytes} {rest = rest} (spelling.last_element {v = v} next is closes) within (suc count) few =
       last_read (value_at room d of) v count bytes next rest (value_is_read room is within) closes
@@ -180,7 +169,7 @@ mutual
       let gap_in = past_gap_shorter inside in
       more_read (value_at room d of) v count bytes next rest (value_is_read room is within) inside vs comma (elements_are_read room others (omega arith) count (omega arith))
 
-  entries_are_read : (room : ℕ) {d : Declared} {key to : Ty} {ps before all : List Pair} {bytes rest : List ℕ} → Entries d key to ps bytes rest → Placed before ps all → length bytes ≤ room → (count : ℕ) → length bytes ≤ count → entries_at (value_at room d key) (value_at room d to) count before bytes ≡ Ok (all, rest)
+  entries_are_read : (room : ℕ) {d : Declared} {key to : Ty} {ps before all : List Pair} {bytes rest : List ℕ} → EntriesBy ALL d key to ps bytes rest → Placed before ps all → length bytes ≤ room → (count : ℕ) → length bytes ≤ count → entries_at (value_at room d key) (value_at room d to) count before bytes ≡ Ok (all, rest)
   entries_are_read room es placed within zero few = absurd (some_entry es few)
   entries_are_read room {d = d} {key = key} {to = to} {before = before} {all = all} {bytes = bytes} {rest = rest} (spelling.last_entry {p = p} next is closes) (spelling.put lower higher before_is rise (spelling.done all_is)) within (suc count) few =
       last_put (value_at room d key) (value_at room d to) count (length lower) p before all bytes next rest (entry_is_read room is lower higher before before_is rise within)
@@ -193,7 +182,7 @@ mutual
       more_put (value_at room d key) (value_at room d to) count (length lower) p before (lower ++ p ∷ higher) bytes next rest (entry_is_read room is lower higher before before_is rise within)
       (ap (λ (l : List Pair). insert l (length lower) p) before_is ∙ insert_between lower higher p) inside all comma (entries_are_read room others placed (omega arith) count (omega arith))
 
-  entry_is_read : (room : ℕ) {d : Declared} {key to : Ty} {p : Pair} {bytes rest : List ℕ} → Entry d key to p bytes rest → (lower higher before : List Pair) → before ≡ lower ++ higher → keys_rise (map entry_key (lower ++ p ∷ higher)) ≡ true → length bytes ≤ room
+  pub entry_is_read : (room : ℕ) {d : Declared} {key to : Ty} {p : Pair} {bytes rest : List ℕ} → EntryBy ALL d key to p bytes rest → (lower higher before : List Pair) → before ≡ lower ++ higher → keys_rise (map entry_key (lower ++ p ∷ higher)) ≡ true → length bytes ≤ room
       → entry_at (value_at room d key) (value_at room d to) (map entry_key before) bytes ≡ Ok ((length lower, p), rest)
   entry_is_read room {d = d} {key = key} {to = to} {p = p} {bytes = bytes} {rest = rest} (spelling.entry k v colon start p_is key_is sign value_is) lower higher before before_is rise within =
       let less = value_shorter key_is in
@@ -202,7 +191,7 @@ mutual
       let gap_in = past_gap_shorter start in
       entry_read (value_at room d key) (value_at room d to) k v p lower higher before bytes colon start rest before_is rise p_is (value_is_read room key_is within) sign (value_is_read room value_is (omega arith))
 
-  members_are_read : (room : ℕ) {d : Declared} {ms : List Member} {vs : List Value} {bytes rest : List ℕ} → Members d ms vs bytes rest → length bytes ≤ room → fields_at (value_at room d) ms bytes ≡ Ok (vs, rest)
+  members_are_read : (room : ℕ) {d : Declared} {ms : List Member} {vs : List Value} {bytes rest : List ℕ} → MembersBy ALL d ms vs bytes rest → length bytes ≤ room → fields_at (value_at room d) ms bytes ≡ Ok (vs, rest)
   members_are_read room {d = d} {bytes = bytes} {rest = rest} (spelling.no_members text) within = no_member_read (value_at room d) bytes rest text
   members_are_read room {d = d} {bytes = bytes} {rest = rest} (spelling.more_members {m = m} {ms = ms} {v = v} {vs = vs} equals start next after name sign is comma others) within =
       let name_len = ap length name ∙ length-append m.name equals in

@@ -13,7 +13,7 @@ use Rattle.tars_model.specs.declared.value.Pair.{Pair}
 use Rattle.tars_model.specs.declared.value.Value.{Value}
 use Rattle.tars_model.proofs.ToldLaws.{told_fits_bool, told_fits_num, told_fits_text, told_fits_blob, told_fits_list, told_fits_map, told_fits_struct, all_told, all_entries, entry_keys, entry_fits_is}
 use Rattle.value_text.specs.ValueSteps.{as_entry}
-use Rattle.value_text.specs.Spelling.{past_gap, Spells, Elements, Entries, Entry, Members}
+use Rattle.value_text.specs.Spelling.{past_gap, SpellsBy, ElementsBy, EntriesBy, EntryBy, MembersBy, ALL}
 use Rattle.value_text.specs.Spelling as spelling
 use Rattle.value_text.proofs.Keys.{placed_rise, placed_length, placed_all}
 use Rattle.value_text.proofs.Signs.{past_gap_shorter}
@@ -33,7 +33,7 @@ abbrev Short : List ℕ → Type 0
 Short bytes = length bytes < 2 ^ 32
 
 mutual
-  pub value_fits : {d : Declared} {t : Ty} {v : Value} {bytes rest : List ℕ} → Spells d t v bytes rest → Short bytes → (told v).fits d t ≡ true
+  pub value_fits : {d : Declared} {t : Ty} {v : Value} {bytes rest : List ℕ} → SpellsBy ALL d t v bytes rest → Short bytes → (told v).fits d t ≡ true
   value_fits {d = d} {t = t} {v = v} (spelling.truth b is v_is text) short = told_fits_bool v d t b v_is ∙ ap is_bool is
   value_fits {d = d} {t = t} {v = v} (spelling.number n fits v_is says) short = told_fits_num v d t n v_is ∙ fits
   value_fits {d = d} {t = t} {v = v} (spelling.text s inside is v_is text inner) short =
@@ -65,7 +65,7 @@ mutual
       let gap = past_gap_shorter inside in
       told_fits_struct v d t vs v_is ∙ ap (fits_struct (map told vs) d) is ∙ members_fit inner (omega arith)
 
-  elements_fit_all : {d : Declared} {of : Ty} {vs : List Value} {bytes rest : List ℕ} → Elements d of vs bytes rest → Short bytes → list_all (λ v. (told v).fits d of) vs ≡ true
+  elements_fit_all : {d : Declared} {of : Ty} {vs : List Value} {bytes rest : List ℕ} → ElementsBy ALL d of vs bytes rest → Short bytes → list_all (λ v. (told v).fits d of) vs ≡ true
   elements_fit_all (spelling.last_element next is closes) short = and_from _ _ (value_fits is short) refl
   elements_fit_all (spelling.more_elements next inside is comma others) short =
       let less = value_shorter is in
@@ -74,7 +74,7 @@ mutual
       let gap_in = past_gap_shorter inside in
       and_from _ _ (value_fits is short) (elements_fit_all others (omega arith))
 
-  entries_fit_all : {d : Declared} {key to : Ty} {ps : List Pair} {bytes rest : List ℕ} → Entries d key to ps bytes rest → Short bytes → list_all (entry_fits d key to) ps ≡ true
+  entries_fit_all : {d : Declared} {key to : Ty} {ps : List Pair} {bytes rest : List ℕ} → EntriesBy ALL d key to ps bytes rest → Short bytes → list_all (entry_fits d key to) ps ≡ true
   entries_fit_all (spelling.last_entry next is closes) short = and_from _ _ (one_entry_fits is short) refl
   entries_fit_all (spelling.more_entries next inside is comma others) short =
       let less = entry_shorter is in
@@ -83,7 +83,7 @@ mutual
       let gap_in = past_gap_shorter inside in
       and_from _ _ (one_entry_fits is short) (entries_fit_all others (omega arith))
 
-  one_entry_fits : {d : Declared} {key to : Ty} {p : Pair} {bytes rest : List ℕ} → Entry d key to p bytes rest → Short bytes → entry_fits d key to p ≡ true
+  one_entry_fits : {d : Declared} {key to : Ty} {p : Pair} {bytes rest : List ℕ} → EntryBy ALL d key to p bytes rest → Short bytes → entry_fits d key to p ≡ true
   one_entry_fits {d = d} {key = key} {to = to} (spelling.entry k v colon start p_is key_is sign value_is) short =
       let less = value_shorter key_is in
       let gap = past_gap_shorter colon in
@@ -91,7 +91,7 @@ mutual
       let gap_in = past_gap_shorter start in
       ap (entry_fits d key to) p_is ∙ entry_fits_is d key to (as_entry k v) ∙ and_from _ _ (value_fits key_is short) (value_fits value_is (omega arith))
 
-  members_fit : {d : Declared} {ms : List Member} {vs : List Value} {bytes rest : List ℕ} → Members d ms vs bytes rest → Short bytes → fit_told d ms (map told vs) ≡ true
+  members_fit : {d : Declared} {ms : List Member} {vs : List Value} {bytes rest : List ℕ} → MembersBy ALL d ms vs bytes rest → Short bytes → fit_told d ms (map told vs) ≡ true
   members_fit (spelling.no_members text) short = refl
   members_fit (spelling.more_members {m = m} {ms = ms} equals start next after name sign is comma others) short =
       let name_len = ap length name ∙ length-append m.name equals in

@@ -85,9 +85,47 @@ below_asym (a_number a) _ one = absurd cc
 below_asym (a_text a) _ one = absurd cc
 below_asym no_key _ one = absurd cc
 
+step_total : (x y : ℕ) (p q : Bool) → (nat_lt x y || (x == y && p)) ≡ false → (nat_lt y x || (y == x && q)) ≡ false → (x ≡ y) × (p ≡ false) × (q ≡ false)
+step_total x y true q one two = absurd (apart x y q one two)
+  where
+    apart : (x y : ℕ) (q : Bool) → (nat_lt x y || (x == y && true)) ≡ false → (nat_lt y x || (y == x && q)) ≡ false → ⊥
+    apart x y true one two = grind (arith, nat_tests)
+    apart x y false one two = grind (arith, nat_tests)
+step_total x y false true one two = absurd (apart x y one two)
+  where
+    apart : (x y : ℕ) → (nat_lt x y || (x == y && false)) ≡ false → (nat_lt y x || (y == x && true)) ≡ false → ⊥
+    apart x y one two = grind (arith, nat_tests)
+step_total x y false false one two = (grind (arith, nat_tests), refl, refl)
+
+less_total : (a b : List ℕ) → less a b ≡ false → less b a ≡ false → a ≡ b
+unfolding less
+less_total [] [] one two = refl
+less_total [] (y ∷ ys) one two = absurd cc
+less_total (x ∷ xs) [] one two = absurd cc
+less_total (x ∷ xs) (y ∷ ys) one two =
+    let parts = step_total x y (less xs ys) (less ys xs) one two in
+    ap (λ (z : ℕ). z ∷ xs) parts.0 ∙ ap (λ (l : List ℕ). y ∷ l) (less_total xs ys parts.1 parts.2)
+
+number_total : (a b : ℤ) → lt_z a b ≡ false → lt_z b a ≡ false → a ≡ b
+number_total a b one two = grind (arith, ints)
+
+-- keys that can be those of one map
+abbrev pub SameKind : Key → Key → Type 0
+SameKind (a_number a) (a_number b) = Unit {0}
+SameKind (a_text a) (a_text b) = Unit {0}
+SameKind no_key no_key = Unit {0}
+SameKind _ _ = ⊥
+
+-- one of them is below the other, or they are the same
+pub below_total : (a b : Key) → SameKind a b → key_below a b ≡ false → key_below b a ≡ false → a ≡ b
+below_total (a_number a) (a_number b) kind one two = ap a_number (number_total a b one two)
+below_total (a_text a) (a_text b) kind one two = ap a_text (less_total a b (sym (text_is a b) ∙ one) (sym (text_is b a) ∙ two))
+below_total no_key no_key kind one two = refl
+below_total _ _ kind one two = absurd kind
+
 -- ---- the place that is found
 
-abbrev some : ℕ → Option ℕ
+abbrev pub some : ℕ → Option ℕ
 some n = Some n
 
 some_is : (x y : ℕ) → some x ≡ some y → x ≡ y
@@ -104,7 +142,7 @@ pub data Steps (key next : Key) : Option ℕ → ℕ → Type 0 where
   second : key_below next key ≡ true → Steps key next (Some 0) 1
   later : (at : ℕ) → Steps key next (Some (suc at)) (suc (suc at))
 
-steps : (key next : Key) (o : Option ℕ) (at : ℕ) → place_before key next o ≡ Some at → Steps key next o at
+pub steps : (key next : Key) (o : Option ℕ) (at : ℕ) → place_before key next o ≡ Some at → Steps key next o at
 steps key next None at e = absurd cc
 steps key next (Some (suc n)) at e = subst (Steps key next (Some (suc n))) (some_is (suc (suc n)) at e) (later n)
 steps key next (Some zero) at e = by_first (key_below key next) refl e

@@ -10,6 +10,7 @@ pub mod TextLaws
 pub mod NumberReads
 pub mod Sound
 pub mod Keys
+pub mod KeySets
 pub mod MapSound
 pub mod Sizes
 pub mod Opening
@@ -18,8 +19,14 @@ pub mod Fits
 pub mod Suffixes
 pub mod Readings
 pub mod Induction
+pub mod SchemaParts
 pub mod SchemaNames
 pub mod PrintedTexts
 pub mod PrintedSpells
 pub mod PrintedParts
 pub mod Octets
+pub mod Forms
+pub mod Reaching
+pub mod Moving
+pub mod Stopping
+pub mod Breaking

@@ -16,21 +16,21 @@ use Rattle.tars_model.specs.declared.value.Value.TheVariants as values
 use Rattle.tars_model.proofs.ToldLaws.{entry_key_is}
 use Rattle.value_text.specs.ReadSteps.{Read, sign_at, turn_at, blob_at, number_at}
 use Rattle.value_text.specs.ValueSteps.{place_at, as_entry, free_place, entry_at, entries_then, entries_at, map_inside, map_at, list_at, vector_at, value_by, value_at}
-use Rattle.value_text.specs.Spelling.{past_gap, Placed, Spells, Entries, Entry}
+use Rattle.value_text.specs.Spelling.{past_gap, Placed, SpellsBy, EntriesBy, EntryBy, ALL}
 use Rattle.value_text.specs.Spelling as spelling
 use Rattle.value_text.proofs.Signs.{okay_is, read_ok, gives, sign_stands, begins_with, turn_stands}
 use Rattle.value_text.proofs.Keys.{Fitting, place_fits, insert_is}
 use Rattle.value_text.proofs.Sound.{Sound, truth_sound, number_sound, text_sound, blob_sound, list_sound, struct_sound}
 
 -- an entry, and its place among others
-record Entered (d : Declared) (key to : Ty) (pairs : List Pair) (at : ℕ) (p : Pair) (bytes rest : List ℕ) : Type 0 where
-  entry : Entry d key to p bytes rest
-  place : place_at (entry_key p) (map entry_key pairs) ≡ Some at
+pub record Entered (d : Declared) (key to : Ty) (pairs : List Pair) (at : ℕ) (p : Pair) (bytes rest : List ℕ) : Type 0 where
+  pub entry : EntryBy ALL d key to p bytes rest
+  pub place : place_at (entry_key p) (map entry_key pairs) ≡ Some at
 
 pub made_key : (k v : Value) → entry_key (as_entry k v) ≡ key_of (out-Value k)
 made_key k v = entry_key_is (as_entry k v)
 
-free_is : (o : Option ℕ) (left : List ℕ) (at : ℕ) → free_place o left ≡ Ok at → o ≡ Some at
+pub free_is : (o : Option ℕ) (left : List ℕ) (at : ℕ) → free_place o left ≡ Ok at → o ≡ Some at
 free_is (Some n) left at e = ap (λ (k : ℕ). found k) (okay_is n at e)
   where
     found : ℕ → Option ℕ
@@ -38,7 +38,7 @@ free_is (Some n) left at e = ap (λ (k : ℕ). found k) (okay_is n at e)
 free_is None left at e = absurd cc
 
 module _ (d : Declared) (key to : Ty) (f g : List ℕ → Read Value) (sound_key : Sound d key f) (sound_value : Sound d to g) where
-  entry_sound : (pairs : List Pair) (at : ℕ) (p : Pair) (bytes rest : List ℕ) → entry_at f g (map entry_key pairs) bytes ≡ Ok ((at, p), rest) → Entered d key to pairs at p bytes rest
+  pub entry_sound : (pairs : List Pair) (at : ℕ) (p : Pair) (bytes rest : List ℕ) → entry_at f g (map entry_key pairs) bytes ≡ Ok ((at, p), rest) → Entered d key to pairs at p bytes rest
   unfolding entry_at
   entry_sound pairs at p bytes rest e =
       let k = bind_gave (f bytes) (λ k. free_place (place_at (key_of (out-Value k.0)) (map entry_key pairs)) bytes >>= λ i. sign_at 58 (past_gap k.1) >>= λ start. g start >>= λ v. read_ok (i, as_entry k.0 v.0) v.1) ((at, p), rest) e in
@@ -50,11 +50,11 @@ module _ (d : Declared) (key to : Ty) (f g : List ℕ → Read Value) (sound_key
       let same = gives one two v.0.1 rest v.2 in
       let sign = sign_stands 58 (past_gap k.0.1) start.0 start.1 in
       entered k.0.0 v.0.0 k.0.1 sign.0 i.0 (sound_key bytes k.0.0 k.0.1 k.1) sign.1
-      (subst (λ (b : List ℕ). Spells d to v.0.0 b rest) (sym sign.2) (sound_value start.0 v.0.0 rest (v.1 ∙ ap (read_ok v.0.0) same.1)))
+      (subst (λ (b : List ℕ). SpellsBy ALL d to v.0.0 b rest) (sym sign.2) (sound_value start.0 v.0.0 rest (v.1 ∙ ap (read_ok v.0.0) same.1)))
       (free_is (place_at (key_of (out-Value k.0.0)) (map entry_key pairs)) bytes i.0 i.1)
       (ap (λ (x : ℕ × Pair). x.0) same.0) (ap (λ (x : ℕ × Pair). x.1) same.0)
     where
-      entered : (k v : Value) (colon start : List ℕ) (i : ℕ) → Spells d key k bytes colon → past_gap colon ≡ 58 ∷ start → Spells d to v (past_gap start) rest
+      entered : (k v : Value) (colon start : List ℕ) (i : ℕ) → SpellsBy ALL d key k bytes colon → past_gap colon ≡ 58 ∷ start → SpellsBy ALL d to v (past_gap start) rest
           → place_at (key_of (out-Value k)) (map entry_key pairs) ≡ Some i → i ≡ at → as_entry k v ≡ p → Entered d key to pairs at p bytes rest
       entered k v colon start i key_spells sign value_spells free at_is p_is = record {
         entry = spelling.entry k v colon start (sym p_is) key_spells sign value_spells;
@@ -64,7 +64,7 @@ module _ (d : Declared) (key to : Ty) (f g : List ℕ → Read Value) (sound_key
           found : ℕ → Option ℕ
           found n = Some n
 
-  entries_sound : (count : ℕ) (before : List Pair) (bytes : List ℕ) (all : List Pair) (rest : List ℕ) → keys_rise (map entry_key before) ≡ true → entries_at f g count before bytes ≡ Ok (all, rest) → (ps : List Pair) × Entries d key to ps bytes rest × Placed before ps all
+  entries_sound : (count : ℕ) (before : List Pair) (bytes : List ℕ) (all : List Pair) (rest : List ℕ) → keys_rise (map entry_key before) ≡ true → entries_at f g count before bytes ≡ Ok (all, rest) → (ps : List Pair) × EntriesBy ALL d key to ps bytes rest × Placed before ps all
   unfolding entries_at
   entries_sound zero before bytes all rest rise e = absurd cc
   entries_sound (suc count) before bytes all rest rise e =
@@ -74,9 +74,9 @@ module _ (d : Declared) (key to : Ty) (f g : List ℕ → Read Value) (sound_key
       let fits = place_fits one.0.0.1 before one.0.0.0 rise entered.place in
       by_turn one.0.0.0 one.0.0.1 one.0.1 entered.entry fits turn.0.0 turn.0.1 turn.1 (λ b next r is. entries_sound count b next all rest r is) turn.2
     where
-      by_turn : (at : ℕ) (p : Pair) (next : List ℕ) → Entry d key to p bytes next → Fitting p before at → (last : Bool) (after : List ℕ) → turn_at 125 next ≡ Ok (last, after)
-          → ((b : List Pair) (next : List ℕ) → keys_rise (map entry_key b) ≡ true → entries_at f g count b next ≡ Ok (all, rest) → (ps : List Pair) × Entries d key to ps next rest × Placed b ps all)
-          → entries_then last after (insert before at p) (entries_at f g count (insert before at p) after) ≡ Ok (all, rest) → (ps : List Pair) × Entries d key to ps bytes rest × Placed before ps all
+      by_turn : (at : ℕ) (p : Pair) (next : List ℕ) → EntryBy ALL d key to p bytes next → Fitting p before at → (last : Bool) (after : List ℕ) → turn_at 125 next ≡ Ok (last, after)
+          → ((b : List Pair) (next : List ℕ) → keys_rise (map entry_key b) ≡ true → entries_at f g count b next ≡ Ok (all, rest) → (ps : List Pair) × EntriesBy ALL d key to ps next rest × Placed b ps all)
+          → entries_then last after (insert before at p) (entries_at f g count (insert before at p) after) ≡ Ok (all, rest) → (ps : List Pair) × EntriesBy ALL d key to ps bytes rest × Placed before ps all
       by_turn at p next is fits true after turn deeper e =
           let same = gives (insert before at p) all after rest e in
           let put_in = sym (insert_is before at p fits.within) ∙ same.0 in (
@@ -89,7 +89,7 @@ module _ (d : Declared) (key to : Ty) (f g : List ℕ → Read Value) (sound_key
           let put_in = insert_is before at p fits.within in
           let others = deeper (take at before ++ p ∷ drop at before) after fits.rise (ap (λ (l : List Pair). entries_at f g count l after) (sym put_in) ∙ e) in (
             p ∷ others.0,
-            spelling.more_entries next comma.0 is comma.1 (subst (λ (b : List ℕ). Entries d key to others.0 b rest) (sym comma.2) others.1),
+            spelling.more_entries next comma.0 is comma.1 (subst (λ (b : List ℕ). EntriesBy ALL d key to others.0 b rest) (sym comma.2) others.1),
             spelling.put (take at before) (drop at before) (sym (take-append-drop at before)) fits.rise others.2,
           )
 
@@ -101,7 +101,7 @@ module _ (d : Declared) (key to : Ty) (f g : List ℕ → Read Value) (sound_key
       by_test open_sign.0 sign.0 sign.1 sign.2 (begins (λ b. b == 125) open_sign.0) (begins_with 125 open_sign.0) open_sign.2
     where
       by_test : (start inside : List ℕ) → bytes ≡ 123 ∷ inside → past_gap inside ≡ start → (closed : Bool) → (closed ≡ true → start ≡ 125 ∷ drop 1 start)
-          → cond closed (read_ok (values.Map []) (drop 1 start)) (entries_at f g (length start) [] start >>= λ ps. read_ok (values.Map ps.0) ps.1) ≡ Ok (v, rest) → Spells d t v bytes rest
+          → cond closed (read_ok (values.Map []) (drop 1 start)) (entries_at f g (length start) [] start >>= λ ps. read_ok (values.Map ps.0) ps.1) ≡ Ok (v, rest) → SpellsBy ALL d t v bytes rest
       by_test start inside text gap true closes e =
           let same = gives (values.Map []) v (drop 1 start) rest e in
           spelling.no_entries key to inside is (sym same.0) text (gap ∙ closes refl ∙ ap (λ (r : List ℕ). 125 ∷ r) same.1)
@@ -109,7 +109,7 @@ module _ (d : Declared) (key to : Ty) (f g : List ℕ → Read Value) (sound_key
           let ps = bind_gave (entries_at f g (length start) [] start) (λ ps. read_ok (values.Map ps.0) ps.1) (v, rest) e in
           let same = gives (values.Map ps.0.0) v ps.0.1 rest ps.2 in
           let found = entries_sound (length start) [] start ps.0.0 rest refl (ps.1 ∙ ap (read_ok ps.0.0) same.1) in
-          spelling.entries key to found.0 ps.0.0 inside is (sym same.0) text (subst (λ (b : List ℕ). Entries d key to found.0 b rest) (sym gap) found.1) found.2
+          spelling.entries key to found.0 ps.0.0 inside is (sym same.0) text (subst (λ (b : List ℕ). EntriesBy ALL d key to found.0 b rest) (sym gap) found.1) found.2
 
 -- ---- values of any type
 
@@ -117,7 +117,7 @@ module _ (d : Declared) (f : Ty → List ℕ → Read Value) (sound : (t : Ty) �
   vector_sound : (of : Ty) → out-Ty t ≡ ty.Vector of → Sound d t (vector_at f of)
   vector_sound of is bytes v rest e = by_test (is_byte (out-Ty of)) refl e
     where
-      by_test : (b : Bool) → is_byte (out-Ty of) ≡ b → cond b (blob_at bytes) (list_at (f of) bytes) ≡ Ok (v, rest) → Spells d t v bytes rest
+      by_test : (b : Bool) → is_byte (out-Ty of) ≡ b → cond b (blob_at bytes) (list_at (f of) bytes) ≡ Ok (v, rest) → SpellsBy ALL d t v bytes rest
       by_test true byte e = blob_sound d t of is byte bytes v rest e
       by_test false other e = list_sound d of (f of) (sound of) t is other bytes v rest e
 

@@ -1,23 +1,23 @@
--- The bytes of numbers: what is read is a whole number in decimal digits, and each such number is read.
-use Rattle.std.proofs.Common.{◌≡◌, ◌≤◌, ◌<◌, ◌+◌, ◌-◌, ◌^◌, ◌⊎◌, ℕ, zero, suc, ℤ, pos, negsuc, Bool, true, false, ◌==◌, cond, List, [], ◌∷◌, ◌++◌, length, take, drop, get_or, Ok, refl, sym, ap, ◌∙◌, subst, inl, inr, arith, rules, decimal, slice_index, nat_le, lt-ltb, lit<}
-use Rattle.std.proofs.lemmas.Bool.{cases_Bool, and_parts, eqb-true}
+-- The bytes of numbers: what is read is a whole number in decimal digits.
+use Rattle.std.proofs.Common.{◌≡◌, ◌≤◌, ◌<◌, ◌+◌, ◌-◌, ◌*◌, ◌^◌, ℕ, zero, suc, ℤ, pos, negsuc, Bool, true, false, ◌==◌, cond, List, [], ◌∷◌, length, take, drop, Ok, refl, sym, ap, ◌∙◌, subst, inl, inr, arith, rules, slice_index, nat_le, nat_lt}
+use Rattle.std.proofs.lemmas.Bool.{and_parts, eqb-true}
 use Rattle.std.proofs.lemmas.Bool.Decides.{nat_tests}
-use Rattle.std.proofs.lemmas.Fmt.{decimal_digit, decimal-digits_value}
-use Rattle.std.proofs.lemmas.List.{take-append-drop}
 use Rattle.std.proofs.lemmas.Str.Parse.{IsNumeralModel, numerals_by_value}
+use Rattle.std.specs.Char.{digit_value}
 use Rattle.std.specs.List.{list_all, prefix_len}
 use Rattle.std.specs.Str.Parse.{digits_value}
-use Rattle.idl_parse.specs.Bytes.{begins}
-use Rattle.idl_parse.specs.Forms.{IsForm, magnitude, is_in_range}
-use Rattle.idl_parse.specs.LexSteps.{after_run}
-use Rattle.idl_parse.specs.Meanings.{negative, whole_number}
-use Rattle.idl_parse.specs.declared.kind.Kind.TheVariants as kinds
-use Rattle.idl_parse.proofs.Lexing.Words.RunLaws.{take_is_run, drop_is_after, run_passes}
-use Rattle.value_text.specs.ReadSteps.{Read, unexpected, natural_len, positive_len, word_of, number_word_at, out_of_range, integer_at, common_len}
-use Rattle.value_text.specs.Spelling.{is_decimal, NumberSpells}
-use Rattle.value_text.proofs.Signs.{okay_is, read_ok, gives}
 use Rattle.facts.proofs.ResultLaws.{bind_gave}
+use Rattle.idl_parse.specs.Forms.{IsForm, magnitude, is_in_range}
+use Rattle.idl_parse.specs.LexSteps.{run, after_run}
+use Rattle.idl_parse.specs.Meanings.{whole_number}
+use Rattle.idl_parse.specs.declared.kind.Kind.TheVariants as kinds
+use Rattle.idl_parse.proofs.Lexing.Numbers.DigitLaws.{le-digits_value_after}
+use Rattle.idl_parse.proofs.Lexing.Words.RunLaws.{take_is_run, drop_is_after, run_passes, run_some}
 use Rattle.tars_model.specs.Values.{is_signed}
+use Rattle.value_text.specs.ReadSteps.{Read, unexpected, natural_len, positive_len, word_of, number_word_at, out_of_range, integer_at, common_len}
+use Rattle.value_text.specs.Spelling.{is_decimal, is_positive, NaturalSpells, NumberSpells}
+use Rattle.value_text.specs.Spelling as spelling
+use Rattle.value_text.proofs.Signs.{read_ok, gives}
 
 pub no_word : (word name : List ℕ) → length word ≤ 0 → common_len word name ≡ 0
 no_word [] name h = refl
@@ -30,132 +30,64 @@ no_name (b ∷ word) (a ∷ name) h = absurd (omega arith)
 
 -- ---- digits
 
--- digits without a leading zero, which what follows does not continue
-pub record Digits (ds rest : List ℕ) : Type 0 where
-  pub passes : list_all is_decimal ds ≡ true
+-- one decimal digit or more
+pub record Digits (ds : List ℕ) : Type 0 where
   pub some : 0 < length ds
-  pub leading : get_or ds 0 0 ≡ 48 → length ds ≡ 1
-  pub ends : (ds ≡ 48 ∷ []) ⊎ (begins is_decimal rest ≡ false)
+  pub passes : list_all is_decimal ds ≡ true
 
-pub run_stops : (test : ℕ → Bool) (bytes : List ℕ) → begins test (after_run test bytes) ≡ false
-run_stops test [] = refl
-run_stops test (b ∷ rest) =
-    elim (cases_Bool (test b)) [
-      | inl passes ↦ rw passes (run_stops test rest)
-      | inr other ↦ rw (other, other) refl
-    ]
+-- what stands at the start, and the bytes after it
+pub record Natural (n : ℕ) (ds bytes rest : List ℕ) : Type 0 where
+  pub digits : Digits ds
+  pub value : digits_value 10 ds ≡ n
+  pub spells : NaturalSpells n bytes rest
 
-zero_passes : is_decimal 48 ≡ true
-zero_passes = refl
+is_more : (b : ℕ) → (b == 48) ≡ false → is_decimal b ≡ true → is_positive b ≡ true
+is_more b other passes = grind (arith, nat_tests)
 
--- a run of digits whose first is no zero
-run_digits : (b : ℕ) (rest : List ℕ) → (b ≡ 48 → ⊥) → 0 < prefix_len is_decimal (b ∷ rest) → Digits (take (prefix_len is_decimal (b ∷ rest)) (b ∷ rest)) (drop (prefix_len is_decimal (b ∷ rest)) (b ∷ rest))
-run_digits b rest no_zero some =
-    elim (cases_Bool (is_decimal b)) [
-      | inl passes ↦ rw (take_is_run is_decimal (b ∷ rest), drop_is_after is_decimal (b ∷ rest)) (record {
-        passes = run_passes is_decimal (b ∷ rest);
-        some = rw passes (omega arith);
-        leading = rw passes (λ zero. absurd (no_zero zero));
-        ends = inr (run_stops is_decimal (b ∷ rest));
-      })
-      | inr other ↦ absurd (none other)
-    ]
+pub more_is : (b : ℕ) → is_positive b ≡ true → (is_decimal b ≡ true) × ((b == 48) ≡ false)
+more_is b more = (grind (arith, nat_tests), grind (arith, nat_tests))
+
+-- digits that begin with another than 0 make up more than 0
+above_0 : (b : ℕ) (ds : List ℕ) → is_positive b ≡ true → 0 < digits_value 10 (b ∷ ds)
+above_0 b ds more = let first = le-digits_value_after 10 (0 * 10 + digit_value b) ds (omega arith) in let one = at_least_1 b more in omega arith
   where
-    none : is_decimal b ≡ false → ⊥
-    none other =
-        let e : prefix_len is_decimal (b ∷ rest) ≡ 0 = rw other refl in
-        omega arith
+    at_least_1 : (b : ℕ) → is_positive b ≡ true → 1 ≤ digit_value b
+    at_least_1 b more = grind (arith, nat_tests)
 
-pub natural_digits : (bytes : List ℕ) → 0 < natural_len bytes → Digits (take (natural_len bytes) bytes) (drop (natural_len bytes) bytes)
-natural_digits [] some = absurd (omega arith)
-natural_digits (b ∷ rest) some = by_test (b == 48) (eqb-true b 48) (eqb-false b 48) some
+-- so many digits, the first of them no zero
+abbrev Run : ℕ → List ℕ → Type 0
+Run len bytes = Natural (digits_value 10 (take len bytes)) (take len bytes) bytes (drop len bytes) × (0 < digits_value 10 (take len bytes))
+
+run_natural : (b : ℕ) (bytes : List ℕ) → (b == 48) ≡ false → 0 < prefix_len is_decimal (b ∷ bytes) → Run (prefix_len is_decimal (b ∷ bytes)) (b ∷ bytes)
+run_natural b bytes other some = rw (take_is_run is_decimal (b ∷ bytes), drop_is_after is_decimal (b ∷ bytes)) (by_test (is_decimal b) refl)
   where
-    eqb-false : (a c : ℕ) → (a == c) ≡ false → a ≡ c → ⊥
-    eqb-false a c h is = grind (arith, nat_tests)
+    by_test : (t : Bool) → is_decimal b ≡ t → Natural (digits_value 10 (run is_decimal (b ∷ bytes))) (run is_decimal (b ∷ bytes)) (b ∷ bytes) (after_run is_decimal (b ∷ bytes)) × (0 < digits_value 10 (run is_decimal (b ∷ bytes)))
+    by_test true passes = (
+      record {
+        digits = record { some = run_some is_decimal (b ∷ bytes) passes; passes = run_passes is_decimal (b ∷ bytes) };
+        value = refl;
+        spells = spelling.positive (is_more b other passes) refl refl;
+      },
+      rw passes (above_0 b (run is_decimal bytes) (is_more b other passes)),
+    )
+    by_test false passes = let none : prefix_len is_decimal (b ∷ bytes) ≡ 0 = rw passes refl in absurd (omega arith)
 
-    by_test : (t : Bool) → (t ≡ true → b ≡ 48) → (t ≡ false → b ≡ 48 → ⊥) → 0 < cond t 1 (prefix_len is_decimal (b ∷ rest)) → Digits (take (cond t 1 (prefix_len is_decimal (b ∷ rest))) (b ∷ rest)) (drop (cond t 1 (prefix_len is_decimal (b ∷ rest))) (b ∷ rest))
-    by_test true is differs some = rw (is refl) (record { passes = refl; some = omega arith; leading = λ e. refl; ends = inl refl })
-    by_test false is differs some = run_digits b rest (differs refl) some
-
--- after a minus no zero leads
-pub record NoZero (ds : List ℕ) : Type 0 where
-  pub first : get_or ds 0 0 ≡ 48 → ⊥
-
-pub positive_digits : (bytes : List ℕ) → 0 < positive_len bytes → Digits (take (positive_len bytes) bytes) (drop (positive_len bytes) bytes) × NoZero (take (positive_len bytes) bytes)
-positive_digits [] some = absurd (omega arith)
-positive_digits (b ∷ rest) some = by_test (b == 48) (eqb-false b 48) some
+pub natural_stands : (bytes : List ℕ) → 0 < natural_len bytes → Natural (digits_value 10 (take (natural_len bytes) bytes)) (take (natural_len bytes) bytes) bytes (drop (natural_len bytes) bytes)
+natural_stands [] some = absurd (omega arith)
+natural_stands (b ∷ bytes) some = by_test (b == 48) refl (eqb-true b 48) some
   where
-    eqb-false : (a c : ℕ) → (a == c) ≡ false → a ≡ c → ⊥
-    eqb-false a c h is = grind (arith, nat_tests)
+    by_test : (t : Bool) → (b == 48) ≡ t → (t ≡ true → b ≡ 48) → 0 < cond t 1 (prefix_len is_decimal (b ∷ bytes))
+        → Natural (digits_value 10 (take (cond t 1 (prefix_len is_decimal (b ∷ bytes))) (b ∷ bytes))) (take (cond t 1 (prefix_len is_decimal (b ∷ bytes))) (b ∷ bytes)) (b ∷ bytes) (drop (cond t 1 (prefix_len is_decimal (b ∷ bytes))) (b ∷ bytes))
+    by_test true e is some = rw (is refl) (record { digits = record { some = omega arith; passes = refl }; value = refl; spells = spelling.nought refl refl })
+    by_test false e is some = (run_natural b bytes e some).0
 
-    first_is : (n : ℕ) → 0 < n → get_or (take n (b ∷ rest)) 0 0 ≡ b
-    first_is zero some = absurd (omega arith)
-    first_is (suc n) some = refl
-
-    by_test : (t : Bool) → (t ≡ false → b ≡ 48 → ⊥) → 0 < cond t 0 (prefix_len is_decimal (b ∷ rest)) → Digits (take (cond t 0 (prefix_len is_decimal (b ∷ rest))) (b ∷ rest)) (drop (cond t 0 (prefix_len is_decimal (b ∷ rest))) (b ∷ rest)) × NoZero (take (cond t 0 (prefix_len is_decimal (b ∷ rest))) (b ∷ rest))
-    by_test true differs some = absurd (omega arith)
-    by_test false differs some = (run_digits b rest (differs refl) some, record { first = λ zero. differs refl (sym (first_is (prefix_len is_decimal (b ∷ rest)) some) ∙ zero) })
-
--- ---- words of numbers
-
--- a word of digits, maybe after a minus
-pub data Worded (bytes word rest : List ℕ) : Type 0 where
-  plain : Digits word rest → bytes ≡ word ++ rest → Worded bytes word rest
-  minus : (ds : List ℕ) → Digits ds rest → NoZero ds → word ≡ 45 ∷ ds → bytes ≡ 45 ∷ (ds ++ rest) → Worded bytes word rest
-
-some_digits : {A : Type 0} (n : ℕ) (left : List ℕ) (r : Read A) (x : A × List ℕ) → cond (n == 0) (unexpected left) r ≡ Ok x → (0 < n) × (r ≡ Ok x)
-some_digits n left r x e = by_test (n == 0) (above n) e
+pub positive_stands : (bytes : List ℕ) → 0 < positive_len bytes → Run (positive_len bytes) bytes
+positive_stands [] some = absurd (omega arith)
+positive_stands (b ∷ bytes) some = by_test (b == 48) refl some
   where
-    above : (n : ℕ) → (n == 0) ≡ false → 0 < n
-    above n h = grind (arith, nat_tests)
-
-    by_test : (t : Bool) → (t ≡ false → 0 < n) → cond t (unexpected left) r ≡ Ok x → (0 < n) × (r ≡ Ok x)
-    by_test true some e = absurd cc
-    by_test false some e = (some refl, e)
-
-module _ (b : ℕ) (bytes word rest : List ℕ) where
-  cut : (k n : ℕ) → k ≡ n → word_of k (b ∷ bytes) ≡ Ok (word, rest) → (take n (b ∷ bytes) ≡ word) × (drop n (b ∷ bytes) ≡ rest)
-  cut k n same e =
-      let pair = okay_is (take k (b ∷ bytes), drop k (b ∷ bytes)) (word, rest) e in
-      (ap (λ i. take i (b ∷ bytes)) (sym same) ∙ ap (λ (p : List ℕ × List ℕ). p.0) pair, ap (λ i. drop i (b ∷ bytes)) (sym same) ∙ ap (λ (p : List ℕ × List ℕ). p.1) pair)
-
-  worded : (ds left : List ℕ) → ds ≡ word → left ≡ rest → Worded (b ∷ bytes) ds left → Worded (b ∷ bytes) word rest
-  worded ds left one two w = subst (λ (r : List ℕ). Worded (b ∷ bytes) word r) two (subst (λ (d : List ℕ). Worded (b ∷ bytes) d left) one w)
-
-  minus_worded : (n : ℕ) → n ≡ positive_len bytes → b ≡ 45 → 0 < n → word_of (length (b ∷ bytes) - length bytes + n) (b ∷ bytes) ≡ Ok (word, rest) → Worded (b ∷ bytes) word rest
-  minus_worded n is minus_is some e =
-      let parts = cut (length (b ∷ bytes) - length bytes + n) (suc n) (omega arith) e in
-      let digits = positive_digits bytes (subst (λ (k : ℕ). 0 < k) is some) in
-      let here : Digits (take n bytes) (drop n bytes) × NoZero (take n bytes) = subst (λ (k : ℕ). Digits (take k bytes) (drop k bytes) × NoZero (take k bytes)) (sym is) digits in
-      worded (b ∷ take n bytes) (drop n bytes) parts.0 parts.1
-      (minus (take n bytes) here.0 here.1 (ap (λ (c : ℕ). c ∷ take n bytes) minus_is) (ap (λ (c : ℕ). c ∷ bytes) minus_is ∙ ap (λ (t : List ℕ). 45 ∷ t) (sym (take-append-drop n bytes))))
-
-  plain_worded : (n : ℕ) → n ≡ natural_len (b ∷ bytes) → 0 < n → word_of (length (b ∷ bytes) - length (b ∷ bytes) + n) (b ∷ bytes) ≡ Ok (word, rest) → Worded (b ∷ bytes) word rest
-  plain_worded n is some e =
-      let parts = cut (length (b ∷ bytes) - length (b ∷ bytes) + n) n (omega arith) e in
-      let digits = natural_digits (b ∷ bytes) (subst (λ (k : ℕ). 0 < k) is some) in
-      let here : Digits (take n (b ∷ bytes)) (drop n (b ∷ bytes)) = subst (λ (k : ℕ). Digits (take k (b ∷ bytes)) (drop k (b ∷ bytes))) (sym is) digits in
-      worded (take n (b ∷ bytes)) (drop n (b ∷ bytes)) parts.0 parts.1 (plain here (sym (take-append-drop n (b ∷ bytes))))
-
-pub number_words : (bytes word rest : List ℕ) → number_word_at bytes ≡ Ok (word, rest) → Worded bytes word rest
-unfolding number_word_at
-number_words [] word rest h = absurd cc
-number_words (b ∷ bytes) word rest h = by_test (b == 45) (eqb-true b 45) h
-  where
-    by_test : (t : Bool) → (t ≡ true → b ≡ 45) → cond (cond t (positive_len bytes) (natural_len (b ∷ bytes)) == 0) (unexpected (cond t bytes (b ∷ bytes))) (word_of (length (b ∷ bytes) - length (cond t bytes (b ∷ bytes)) + cond t (positive_len bytes) (natural_len (b ∷ bytes))) (b ∷ bytes)) ≡ Ok (word, rest) → Worded (b ∷ bytes) word rest
-    by_test true is e =
-        let some = some_digits (positive_len bytes) bytes _ (word, rest) e in
-        minus_worded b bytes word rest (positive_len bytes) refl (is refl) some.0 some.1
-    by_test false is e =
-        let some = some_digits (natural_len (b ∷ bytes)) (b ∷ bytes) _ (word, rest) e in
-        plain_worded b bytes word rest (natural_len (b ∷ bytes)) refl some.0 some.1
-
-pub word_form : (bytes word rest : List ℕ) → number_word_at bytes ≡ Ok (word, rest) → IsForm kinds.Number word
-word_form bytes word rest h = form word rest (number_words bytes word rest h)
-  where
-    form : (word rest : List ℕ) → Worded bytes word rest → IsForm kinds.Number word
-    form word rest (plain ds is) = inl (inl (ds.some, ds.passes))
-    form word rest (minus body ds first word_is is) = inr (body, word_is, inl (ds.some, ds.passes))
+    by_test : (t : Bool) → (b == 48) ≡ t → 0 < cond t 0 (prefix_len is_decimal (b ∷ bytes)) → Run (cond t 0 (prefix_len is_decimal (b ∷ bytes))) (b ∷ bytes)
+    by_test true e some = absurd (omega arith)
+    by_test false e some = run_natural b bytes e some
 
 -- ---- what they mean
 
@@ -174,72 +106,89 @@ no_sign (c ∷ ds) zero passes = (no_minus c (and_parts (is_decimal c) (list_all
     no_x c passes = grind (arith, nat_tests)
 no_sign (c ∷ ds) (suc i) passes = no_sign ds i (and_parts (is_decimal c) (list_all is_decimal ds) passes).1
 
-pub magnitude_is : (ds : List ℕ) → list_all is_decimal ds ≡ true → magnitude ds ≡ digits_value 10 ds
+magnitude_is : (ds : List ℕ) → list_all is_decimal ds ≡ true → magnitude ds ≡ digits_value 10 ds
 magnitude_is ds passes = rw ((no_sign ds 1 passes).1) refl
 
-module _ (ds rest : List ℕ) (is : Digits ds rest) where
-  decimal_back : digits_value 10 ds < 2 ^ 64 → decimal (digits_value 10 ds) ≡ ds
-  decimal_back small = decimal-digits_value passing ds is.passes is.some is.leading small
+-- what a word of digits stands for, and whether it has 64 bits
+pub plain_means : (ds : List ℕ) (n : ℕ) → Digits ds → digits_value 10 ds ≡ n → (whole_number ds ≡ pos n) × (is_in_range ds ≡ is_signed 63 (pos n))
+plain_means ds n is value = rw ((no_sign ds 0 is.passes).0, magnitude_is ds is.passes, value) (refl, within n)
+  where
+    within : (n : ℕ) → nat_le n (2 ^ 63 - 1) ≡ nat_lt n (2 ^ 63)
+    within n = grind (arith, nat_tests)
 
-  -- a number without a minus
-  plain_spells : (bytes : List ℕ) → bytes ≡ ds ++ rest → is_in_range ds ≡ true → NumberSpells (whole_number ds) bytes rest × (is_signed 63 (whole_number ds) ≡ true)
-  plain_spells bytes text in_range =
-      let value : whole_number ds ≡ pos (digits_value 10 ds) = rw ((no_sign ds 0 is.passes).0, magnitude_is ds is.passes) refl in
-      let small : nat_le (digits_value 10 ds) (2 ^ 63 - 1) ≡ true = rw (← magnitude_is ds is.passes) (ranged in_range) in
-      let bound : digits_value 10 ds < 2 ^ 63 = within (digits_value 10 ds) small in
-      rw value (
-        record {
-          text = text ∙ ap (λ (l : List ℕ). l ++ rest) (sym (decimal_back (omega arith)));
-          ends = elim is.ends [ inl only ↦ inl (ap (λ (l : List ℕ). pos (digits_value 10 l)) only) | inr other ↦ inr other ];
-        },
-        lt-ltb (digits_value 10 ds) (2 ^ 63) bound,
-      )
-    where
-      ranged : is_in_range ds ≡ true → nat_le (magnitude ds) (2 ^ 63 - 1) ≡ true
-      ranged h = sym (rw ((no_sign ds 0 is.passes).0) refl) ∙ h
+pub minus_means : (ds : List ℕ) (n : ℕ) → Digits ds → digits_value 10 ds ≡ suc n → (whole_number (45 ∷ ds) ≡ negsuc n) × (is_in_range (45 ∷ ds) ≡ is_signed 63 (negsuc n))
+minus_means ds n is value = rw (magnitude_is ds is.passes, value) (refl, within n)
+  where
+    within : (n : ℕ) → nat_le (suc n) (2 ^ 63) ≡ nat_lt n (2 ^ 63)
+    within n = grind (arith, nat_tests)
 
-      within : (n : ℕ) → nat_le n (2 ^ 63 - 1) ≡ true → n < 2 ^ 63
-      within n h = grind (arith, nat_tests)
+-- ---- words of numbers
 
-  -- a number after a minus
-  minus_spells : (bytes : List ℕ) → NoZero ds → bytes ≡ 45 ∷ (ds ++ rest) → is_in_range (45 ∷ ds) ≡ true → NumberSpells (whole_number (45 ∷ ds)) bytes rest × (is_signed 63 (whole_number (45 ∷ ds)) ≡ true)
-  minus_spells bytes first text in_range = by_value (digits_value 10 ds) refl
-    where
-      within : (n : ℕ) → nat_le n (2 ^ 63) ≡ true → n ≤ 2 ^ 63
-      within n h = grind (arith, nat_tests)
+-- a word of digits, maybe after a minus, and the number that it says
+pub record Says (bytes word rest : List ℕ) : Type 0 where
+  pub form : IsForm kinds.Number word
+  pub number : NumberSpells (whole_number word) bytes rest
+  pub range : is_in_range word ≡ is_signed 63 (whole_number word)
 
-      by_value : (n : ℕ) → digits_value 10 ds ≡ n → NumberSpells (whole_number (45 ∷ ds)) bytes rest × (is_signed 63 (whole_number (45 ∷ ds)) ≡ true)
-      by_value zero value =
-          let small : digits_value 10 ds < 2 ^ 64 = rw value (lit< tt) in
-          let zero_is : ds ≡ 48 ∷ [] = sym (decimal_back small) ∙ ap decimal value ∙ decimal_digit 0 (lit< tt) in
-          absurd (first.first (ap (λ (l : List ℕ). get_or l 0 0) zero_is))
-      by_value (suc n) value =
-          let bound : suc n ≤ 2 ^ 63 = within (suc n) (rw (← value, ← magnitude_is ds is.passes) in_range) in
-          let number : whole_number (45 ∷ ds) ≡ negsuc n = ap negative (magnitude_is ds is.passes ∙ value) in
-          let back : ds ≡ decimal (suc n) = sym (decimal_back (rw value (omega arith))) ∙ ap decimal value in
-          rw number (
-            record {
-              text = text ∙ ap (λ (l : List ℕ). 45 ∷ (l ++ rest)) back;
-              ends = elim is.ends [ inl only ↦ absurd (first.first (ap (λ (l : List ℕ). get_or l 0 0) only)) | inr other ↦ inr other ];
-            },
-            lt-ltb n (2 ^ 63) (omega arith),
-          )
+plain_says : (bytes word rest : List ℕ) (n : ℕ) → Natural n word bytes rest → Says bytes word rest
+plain_says bytes word rest n is =
+    let means = plain_means word n is.digits is.value in
+    record { form = inl (inl (is.digits.some, is.digits.passes)); number = spelling.natural n means.0 is.spells; range = means.1 ∙ ap (is_signed 63) (sym means.0) }
 
-pub number_stands : (n : ℤ) (bytes rest : List ℕ) → integer_at bytes ≡ Ok (n, rest) → NumberSpells n bytes rest × (is_signed 63 n ≡ true)
+minus_says : (inside ds rest : List ℕ) (n : ℕ) → 0 < n → Natural n ds inside rest → Says (45 ∷ inside) (45 ∷ ds) rest
+minus_says inside ds rest zero some is = absurd (omega arith)
+minus_says inside ds rest (suc n) some is =
+    let means = minus_means ds n is.digits is.value in
+    record { form = inr (ds, refl, inl (is.digits.some, is.digits.passes)); number = spelling.negative n inside means.0 refl is.spells; range = means.1 ∙ ap (is_signed 63) (sym means.0) }
+
+some_digits : {A : Type 0} (n : ℕ) (left : List ℕ) (r : Read A) (x : A × List ℕ) → cond (n == 0) (unexpected left) r ≡ Ok x → (0 < n) × (r ≡ Ok x)
+some_digits n left r x e = by_test (n == 0) (above n) e
+  where
+    above : (n : ℕ) → (n == 0) ≡ false → 0 < n
+    above n h = grind (arith, nat_tests)
+
+    by_test : (t : Bool) → (t ≡ false → 0 < n) → cond t (unexpected left) r ≡ Ok x → (0 < n) × (r ≡ Ok x)
+    by_test true some e = absurd cc
+    by_test false some e = (some refl, e)
+
+cut : (k n : ℕ) (bytes word rest : List ℕ) → k ≡ n → word_of k bytes ≡ Ok (word, rest) → (take n bytes ≡ word) × (drop n bytes ≡ rest)
+cut k n bytes word rest same e =
+    let parts = gives (take k bytes) word (drop k bytes) rest e in
+    (ap (λ i. take i bytes) (sym same) ∙ parts.0, ap (λ i. drop i bytes) (sym same) ∙ parts.1)
+
+says : (bytes a word b rest : List ℕ) → a ≡ word → b ≡ rest → Says bytes a b → Says bytes word rest
+says bytes a word b rest one two s = subst (λ (w : List ℕ). Says bytes w rest) one (subst (Says bytes a) two s)
+
+pub word_says : (bytes word rest : List ℕ) → number_word_at bytes ≡ Ok (word, rest) → Says bytes word rest
+unfolding number_word_at
+word_says [] word rest h = absurd cc
+word_says (b ∷ bytes) word rest h = by_test (b == 45) (eqb-true b 45) h
+  where
+    by_test : (t : Bool) → (t ≡ true → b ≡ 45) → cond (cond t (positive_len bytes) (natural_len (b ∷ bytes)) == 0) (unexpected (cond t bytes (b ∷ bytes))) (word_of (length (b ∷ bytes) - length (cond t bytes (b ∷ bytes)) + cond t (positive_len bytes) (natural_len (b ∷ bytes))) (b ∷ bytes)) ≡ Ok (word, rest) → Says (b ∷ bytes) word rest
+    by_test true is e =
+        let some = some_digits (positive_len bytes) bytes _ (word, rest) e in
+        let parts = cut (length (b ∷ bytes) - length bytes + positive_len bytes) (suc (positive_len bytes)) (b ∷ bytes) word rest (omega arith) some.1 in
+        let stands = positive_stands bytes some.0 in
+        let minus = minus_says bytes (take (positive_len bytes) bytes) (drop (positive_len bytes) bytes) (digits_value 10 (take (positive_len bytes) bytes)) stands.1 stands.0 in
+        says (b ∷ bytes) (b ∷ take (positive_len bytes) bytes) word (drop (positive_len bytes) bytes) rest parts.0 parts.1
+        (subst (λ (c : ℕ). Says (c ∷ bytes) (c ∷ take (positive_len bytes) bytes) (drop (positive_len bytes) bytes)) (sym (is refl)) minus)
+    by_test false is e =
+        let some = some_digits (natural_len (b ∷ bytes)) (b ∷ bytes) _ (word, rest) e in
+        let len : ℕ = natural_len (b ∷ bytes) in
+        let parts = cut (length (b ∷ bytes) - length (b ∷ bytes) + len) len (b ∷ bytes) word rest (omega arith) some.1 in
+        says (b ∷ bytes) (take len (b ∷ bytes)) word (drop len (b ∷ bytes)) rest parts.0 parts.1 (plain_says (b ∷ bytes) (take len (b ∷ bytes)) (drop len (b ∷ bytes)) (digits_value 10 (take len (b ∷ bytes))) (natural_stands (b ∷ bytes) some.0))
+
+pub word_form : (bytes word rest : List ℕ) → number_word_at bytes ≡ Ok (word, rest) → IsForm kinds.Number word
+word_form bytes word rest h = (word_says bytes word rest h).form
+
+pub number_stands : (n : ℤ) (bytes rest : List ℕ) → integer_at bytes ≡ Ok (n, rest) → NumberSpells n bytes rest
 unfolding integer_at
 number_stands n bytes rest e =
     let word = bind_gave (number_word_at bytes) (λ w. cond (is_in_range w.0) (read_ok (whole_number w.0) w.1) (out_of_range bytes)) (n, rest) e in
-    by_test word.0.0 word.0.1 (number_words bytes word.0.0 word.0.1 word.1) (is_in_range word.0.0) refl word.2
+    by_test word.0.0 word.0.1 (word_says bytes word.0.0 word.0.1 word.1) (is_in_range word.0.0) word.2
   where
-    spells : (word after : List ℕ) → Worded bytes word after → is_in_range word ≡ true → NumberSpells (whole_number word) bytes after × (is_signed 63 (whole_number word) ≡ true)
-    spells word after (plain is text) in_range = plain_spells word after is bytes text in_range
-    spells word after (minus ds is first word_is text) in_range =
-        subst (λ (w : List ℕ). NumberSpells (whole_number w) bytes after × (is_signed 63 (whole_number w) ≡ true)) (sym word_is)
-        (minus_spells ds after is bytes first text (subst (λ (w : List ℕ). is_in_range w ≡ true) word_is in_range))
-
-    by_test : (word after : List ℕ) → Worded bytes word after → (t : Bool) → is_in_range word ≡ t → cond t (read_ok (whole_number word) after) (out_of_range bytes) ≡ read_ok n rest → NumberSpells n bytes rest × (is_signed 63 n ≡ true)
-    by_test word after worded true in_range e =
+    by_test : (word after : List ℕ) → Says bytes word after → (t : Bool) → cond t (read_ok (whole_number word) after) (out_of_range bytes) ≡ read_ok n rest → NumberSpells n bytes rest
+    by_test word after s true e =
         let same = gives (whole_number word) n after rest e in
-        let s = spells word after worded in_range in
-        subst (λ (m : ℤ). NumberSpells m bytes rest × (is_signed 63 m ≡ true)) same.0 (subst (λ (r : List ℕ). NumberSpells (whole_number word) bytes r) same.1 s.0, s.1)
-    by_test word after worded false in_range e = absurd cc
+        subst (λ (m : ℤ). NumberSpells m bytes rest) same.0 (subst (NumberSpells (whole_number word) bytes) same.1 s.number)
+    by_test word after s false e = absurd cc

@@ -1,115 +1,103 @@
 -- Each number that is spelled is read.
-use Rattle.std.proofs.Common.{◌≡◌, ◌≤◌, ◌<◌, ◌+◌, ◌-◌, ◌^◌, ◌⊎◌, ℕ, zero, suc, ℤ, pos, negsuc, Bool, true, false, ◌==◌, cond, List, [], ◌∷◌, ◌++◌, length, get_or, Ok, refl, sym, ap, ◌∙◌, inl, inr, arith, decimal, nat_le, ltb-true}
-use Rattle.std.proofs.lemmas.Bool.{and_parts, eqb-true}
+use Rattle.std.proofs.Common.{◌≡◌, ◌<◌, ◌+◌, ◌-◌, ℕ, suc, ℤ, pos, negsuc, true, false, ◌==◌, List, [], ◌∷◌, length, take, drop, Ok, refl, sym, ap, ◌∙◌, subst, arith}
 use Rattle.std.proofs.lemmas.Bool.Decides.{nat_tests}
-use Rattle.std.proofs.lemmas.Fmt.{digits_decimal, digits_value-decimal, decimal_nonempty, first_decimal, decimal_digit}
-use Rattle.std.proofs.Math.Seq.{take-append_seam, drop-append_seam}
-use Rattle.std.specs.List.{list_all, prefix_len}
+use Rattle.std.specs.List.{prefix_len}
+use Rattle.std.specs.Str.Parse.{digits_value}
 use Rattle.idl_parse.specs.Bytes.{begins}
-use Rattle.idl_parse.specs.Forms.{magnitude, is_in_range}
-use Rattle.idl_parse.specs.Meanings.{negative, whole_number}
+use Rattle.idl_parse.specs.Forms.{is_in_range}
+use Rattle.idl_parse.specs.LexSteps.{run, after_run}
+use Rattle.idl_parse.specs.Meanings.{whole_number}
+use Rattle.idl_parse.proofs.Lexing.Words.RunLaws.{take_is_run, drop_is_after, run_passes, run_some}
 use Rattle.tars_model.specs.Values.{is_signed}
-use Rattle.value_text.specs.ReadSteps.{natural_len, positive_len, word_of, number_word_at, integer_at}
-use Rattle.value_text.specs.Spelling.{is_decimal, NumberSpells}
-use Rattle.value_text.proofs.NumberLaws.{Digits, NoZero, passing, no_sign, magnitude_is}
-
-prefix_over : (test : ℕ → Bool) (ds rest : List ℕ) → list_all test ds ≡ true → begins test rest ≡ false → prefix_len test (ds ++ rest) ≡ length ds
-prefix_over test [] [] all stops = refl
-prefix_over test [] (b ∷ rest) all stops = rw stops refl
-prefix_over test (d ∷ ds) rest all stops =
-    let parts = and_parts (test d) (list_all test ds) all in
-    rw (parts.0, prefix_over test ds rest parts.1 stops) (omega arith)
-
-differs : (a c : ℕ) → (a ≡ c → ⊥) → (a == c) ≡ false
-differs a c apart = grind (arith, nat_tests)
-
-natural_is : (d : ℕ) (ds rest : List ℕ) → Digits (d ∷ ds) rest → natural_len (d ∷ (ds ++ rest)) ≡ length (d ∷ ds)
-natural_is d ds rest is = by_test (d == 48) (eqb-true d 48) (neqb d 48)
-  where
-    neqb : (a c : ℕ) → (a == c) ≡ false → a ≡ c → ⊥
-    neqb a c h e = grind (arith, nat_tests)
-
-    by_test : (t : Bool) → (t ≡ true → d ≡ 48) → (t ≡ false → d ≡ 48 → ⊥) → cond t 1 (prefix_len is_decimal (d ∷ (ds ++ rest))) ≡ length (d ∷ ds)
-    by_test true zero_is other = sym (is.leading (zero_is refl))
-    by_test false zero_is other = elim is.ends [
-      | inl only ↦ absurd (other refl (ap (λ (l : List ℕ). get_or l 0 0) only))
-      | inr stops ↦ prefix_over is_decimal (d ∷ ds) rest is.passes stops
-    ]
-
-positive_is : (ds rest : List ℕ) → Digits ds rest → NoZero ds → positive_len (ds ++ rest) ≡ length ds
-positive_is [] rest is first = absurd (omega (arith, is.some))
-positive_is (d ∷ ds) rest is first = rw (differs d 48 first.first) (elim is.ends [
-  | inl only ↦ absurd (first.first (ap (λ (l : List ℕ). get_or l 0 0) only))
-  | inr stops ↦ prefix_over is_decimal (d ∷ ds) rest is.passes stops
-])
+use Rattle.value_text.specs.ReadSteps.{natural_len, positive_len, word_of, number_word_at, out_of_range, integer_at}
+use Rattle.value_text.specs.Spelling.{is_decimal, is_positive, NaturalSpells, NumberSpells}
+use Rattle.value_text.specs.Spelling as spelling
+use Rattle.value_text.proofs.NumberLaws.{Digits, more_is, plain_means, minus_means}
+use Rattle.value_text.proofs.Signs.{read_ok}
 
 above : (n : ℕ) → 0 < n → (n == 0) ≡ false
 above n some = grind (arith, nat_tests)
 
-word_is : (k : ℕ) (ds rest : List ℕ) → k ≡ length ds → word_of k (ds ++ rest) ≡ Ok (ds, rest)
-word_is k ds rest is = rw (is, take-append_seam ds rest, drop-append_seam ds rest) refl
+-- how many digits stand at the start
+record Counted (len n : ℕ) (bytes rest : List ℕ) : Type 0 where
+  some : 0 < len
+  digits : Digits (take len bytes)
+  value : digits_value 10 (take len bytes) ≡ n
+  after : drop len bytes ≡ rest
 
-plain_word : (ds rest : List ℕ) → Digits ds rest → number_word_at (ds ++ rest) ≡ Ok (ds, rest)
-unfolding number_word_at
-plain_word [] rest is = absurd (omega (arith, is.some))
-plain_word (d ∷ ds) rest is =
-    let no_minus = (no_sign (d ∷ ds) 0 is.passes).0 in
-    let len = natural_is d ds rest is in
-    rw (no_minus, len, above (length (d ∷ ds)) (omega arith)) (word_is (length (d ∷ (ds ++ rest)) - length (d ∷ (ds ++ rest)) + length (d ∷ ds)) (d ∷ ds) rest (omega arith))
+run_counted : (b : ℕ) (bytes rest : List ℕ) (n len : ℕ) → is_positive b ≡ true → n ≡ digits_value 10 (run is_decimal (b ∷ bytes)) → rest ≡ after_run is_decimal (b ∷ bytes) → len ≡ prefix_len is_decimal (b ∷ bytes) → Counted len n (b ∷ bytes) rest
+run_counted b bytes rest n len more value after is = rw is (record {
+  some = rw (more_is b more).0 (omega arith);
+  digits = rw (take_is_run is_decimal (b ∷ bytes)) (record { some = run_some is_decimal (b ∷ bytes) (more_is b more).0; passes = run_passes is_decimal (b ∷ bytes) });
+  value = ap (digits_value 10) (take_is_run is_decimal (b ∷ bytes)) ∙ sym value;
+  after = drop_is_after is_decimal (b ∷ bytes) ∙ sym after;
+})
 
-minus_word : (ds rest : List ℕ) → Digits ds rest → NoZero ds → number_word_at (45 ∷ (ds ++ rest)) ≡ Ok (45 ∷ ds, rest)
-unfolding number_word_at
-minus_word ds rest is first =
-    let len = positive_is ds rest is first in
-    rw (len, above (length ds) is.some) (word_is (length (45 ∷ (ds ++ rest)) - length (ds ++ rest) + length ds) (45 ∷ ds) rest (omega arith))
+natural_counted : (n : ℕ) (bytes rest : List ℕ) → NaturalSpells n bytes rest → Counted (natural_len bytes) n bytes rest
+natural_counted n bytes rest (spelling.nought none text) = rw (text, none) (record { some = omega arith; digits = record { some = omega arith; passes = refl }; value = refl; after = refl })
+natural_counted n [] rest (spelling.positive more value after) = absurd cc
+natural_counted n (b ∷ bytes) rest (spelling.positive more value after) = run_counted b bytes rest n (natural_len (b ∷ bytes)) more value after (rw (more_is b more).1 refl)
 
--- the digits of a number
-decimal_digits : (n : ℕ) (rest : List ℕ) → n < 2 ^ 64 → (n ≡ 0) ⊎ (begins is_decimal rest ≡ false) → Digits (decimal n) rest
-decimal_digits n rest small ends = record {
-  passes = digits_decimal passing n small;
-  some = decimal_nonempty n small;
-  leading = by_size n small;
-  ends = elim ends [ inl none ↦ inl (zero_is n none) | inr stops ↦ inr stops ];
-}
+positive_counted : (n : ℕ) (bytes rest : List ℕ) → NaturalSpells (suc n) bytes rest → Counted (positive_len bytes) (suc n) bytes rest
+positive_counted n bytes rest (spelling.nought none text) = absurd cc
+positive_counted n [] rest (spelling.positive more value after) = absurd cc
+positive_counted n (b ∷ bytes) rest (spelling.positive more value after) = run_counted b bytes rest (suc n) (positive_len (b ∷ bytes)) more value after (rw (more_is b more).1 refl)
+
+-- no minus stands before it
+no_minus : (n : ℕ) (bytes rest : List ℕ) → NaturalSpells n bytes rest → begins (λ b. b == 45) bytes ≡ false
+no_minus n bytes rest (spelling.nought none text) = ap (begins (λ b. b == 45)) text
+no_minus n [] rest (spelling.positive more value after) = refl
+no_minus n (b ∷ bytes) rest (spelling.positive more value after) = apart b more
   where
-    zero_is : (n : ℕ) → n ≡ 0 → decimal n ≡ 48 ∷ []
-    zero_is n none = ap decimal none ∙ decimal_digit 0 (omega arith)
+    apart : (b : ℕ) → is_positive b ≡ true → (b == 45) ≡ false
+    apart b more = grind (arith, nat_tests)
 
-    by_size : (n : ℕ) → n < 2 ^ 64 → get_or (decimal n) 0 0 ≡ 48 → length (decimal n) ≡ 1
-    by_size zero small first = ap length (decimal_digit 0 (omega arith))
-    by_size (suc n) small first = let large = first_decimal (suc n) (omega arith) small in absurd (omega arith)
+word_is : (k len : ℕ) (bytes rest : List ℕ) → k ≡ len → drop len bytes ≡ rest → word_of k bytes ≡ Ok (take len bytes, rest)
+word_is k len bytes rest is after = rw (is, after) refl
 
-no_zero : (n : ℕ) → suc n < 2 ^ 64 → NoZero (decimal (suc n))
-no_zero n small = record { first = λ first. let large = first_decimal (suc n) (omega arith) small in absurd (omega arith) }
+-- the word that is read of a number, and what it stands for
+pub record Word (n : ℤ) (bytes rest : List ℕ) : Type 0 where
+  pub word : List ℕ
+  pub read : number_word_at bytes ≡ Ok (word, rest)
+  pub value : whole_number word ≡ n
+  pub range : is_in_range word ≡ is_signed 63 n
 
-at_most : (a b : ℕ) → a ≤ b → nat_le a b ≡ true
-at_most a b less = grind (arith, nat_tests)
+plain_word_at : (b : ℕ) (bytes rest : List ℕ) (n : ℕ) → begins (λ c. c == 45) (b ∷ bytes) ≡ false → Counted (natural_len (b ∷ bytes)) n (b ∷ bytes) rest → number_word_at (b ∷ bytes) ≡ Ok (take (natural_len (b ∷ bytes)) (b ∷ bytes), rest)
+unfolding number_word_at
+plain_word_at b bytes rest n other is =
+    rw (other, above (natural_len (b ∷ bytes)) is.some) (word_is (length (b ∷ bytes) - length (b ∷ bytes) + natural_len (b ∷ bytes)) (natural_len (b ∷ bytes)) (b ∷ bytes) rest (omega arith) is.after)
 
-plain_number : (n : ℕ) (bytes rest : List ℕ) → n < 2 ^ 63 → (n ≡ 0) ⊎ (begins is_decimal rest ≡ false) → bytes ≡ decimal n ++ rest → integer_at bytes ≡ Ok (pos n, rest)
-unfolding integer_at
-plain_number n bytes rest small ends text =
-    let is = decimal_digits n rest (omega arith) ends in
-    let value : magnitude (decimal n) ≡ n = magnitude_is (decimal n) is.passes ∙ digits_value-decimal passing n (omega arith) in
-    let sign = (no_sign (decimal n) 0 is.passes).0 in
-    let number : whole_number (decimal n) ≡ pos n = rw (sign, value) refl in
-    let in_range : is_in_range (decimal n) ≡ true = rw (sign, value) (at_most n (2 ^ 63 - 1) (omega arith)) in
-    ap integer_at text ∙ rw (plain_word (decimal n) rest is, in_range, number) refl
+plain_word : (n : ℕ) (bytes rest : List ℕ) → NaturalSpells n bytes rest → Word (pos n) bytes rest
+plain_word n [] rest s = absurd (omega (arith, (natural_counted n [] rest s).some))
+plain_word n (b ∷ bytes) rest s =
+    let is = natural_counted n (b ∷ bytes) rest s in
+    let means = plain_means (take (natural_len (b ∷ bytes)) (b ∷ bytes)) n is.digits is.value in
+    record { word = take (natural_len (b ∷ bytes)) (b ∷ bytes); read = plain_word_at b bytes rest n (no_minus n (b ∷ bytes) rest s) is; value = means.0; range = means.1 }
 
-minus_number : (n : ℕ) (bytes rest : List ℕ) → n < 2 ^ 63 → begins is_decimal rest ≡ false → bytes ≡ 45 ∷ (decimal (suc n) ++ rest) → integer_at bytes ≡ Ok (negsuc n, rest)
-unfolding integer_at
-minus_number n bytes rest small stops text =
-    let is = decimal_digits (suc n) rest (omega arith) (inr stops) in
-    let value : magnitude (decimal (suc n)) ≡ suc n = magnitude_is (decimal (suc n)) is.passes ∙ digits_value-decimal passing (suc n) (omega arith) in
-    let number : whole_number (45 ∷ decimal (suc n)) ≡ negsuc n = ap negative value in
-    let in_range : is_in_range (45 ∷ decimal (suc n)) ≡ true = rw value (at_most (suc n) (2 ^ 63) (omega arith)) in
-    ap integer_at text ∙ rw (minus_word (decimal (suc n)) rest is (no_zero n (omega arith)), in_range, number) refl
+minus_word_at : (inside rest : List ℕ) (n : ℕ) → Counted (positive_len inside) n inside rest → number_word_at (45 ∷ inside) ≡ Ok (45 ∷ take (positive_len inside) inside, rest)
+unfolding number_word_at
+minus_word_at inside rest n is =
+    rw (above (positive_len inside) is.some) (word_is (length (45 ∷ inside) - length inside + positive_len inside) (suc (positive_len inside)) (45 ∷ inside) rest (omega arith) is.after)
+
+minus_word : (n : ℕ) (inside rest : List ℕ) → NaturalSpells (suc n) inside rest → Word (negsuc n) (45 ∷ inside) rest
+minus_word n inside rest s =
+    let is = positive_counted n inside rest s in
+    let means = minus_means (take (positive_len inside) inside) n is.digits is.value in
+    record { word = 45 ∷ take (positive_len inside) inside; read = minus_word_at inside rest (suc n) is; value = means.0; range = means.1 }
+
+pub word_is_read : (n : ℤ) (bytes rest : List ℕ) → NumberSpells n bytes rest → Word n bytes rest
+word_is_read n bytes rest (spelling.natural m is s) = subst (λ (k : ℤ). Word k bytes rest) (sym is) (plain_word m bytes rest s)
+word_is_read n bytes rest (spelling.negative m inside is text s) = subst (λ (k : ℤ). Word k bytes rest) (sym is) (subst (λ (b : List ℕ). Word (negsuc m) b rest) (sym text) (minus_word m inside rest s))
 
 pub number_is_read : (n : ℤ) (bytes rest : List ℕ) → is_signed 63 n ≡ true → NumberSpells n bytes rest → integer_at bytes ≡ Ok (n, rest)
-number_is_read (pos n) bytes rest long is = plain_number n bytes rest (ltb-true n (2 ^ 63) long) (elim is.ends [ inl none ↦ inl (pos_is n 0 none) | inr stops ↦ inr stops ]) is.text
-  where
-    pos_is : (a b : ℕ) → pos a ≡ pos b → a ≡ b
-    pos_is a b e = cc
-number_is_read (negsuc n) bytes rest long is = minus_number n bytes rest (ltb-true n (2 ^ 63) long) (elim is.ends [ inl none ↦ absurd (apart n none) | inr stops ↦ stops ]) is.text
-  where
-    apart : (n : ℕ) → negsuc n ≡ pos 0 → ⊥
-    apart n e = cc
+unfolding integer_at
+number_is_read n bytes rest long s =
+    let is = word_is_read n bytes rest s in
+    rw (is.read, is.range, long) (ap (λ (m : ℤ). read_ok m rest) is.value)
+
+-- a number of more than 64 bits is out of every range
+pub wide_is_out : (n : ℤ) (bytes rest : List ℕ) → is_signed 63 n ≡ false → NumberSpells n bytes rest → integer_at bytes ≡ out_of_range bytes
+unfolding integer_at
+wide_is_out n bytes rest wide s =
+    let is = word_is_read n bytes rest s in
+    rw (is.read, is.range, wide) refl

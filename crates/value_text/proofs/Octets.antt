@@ -14,7 +14,7 @@ use Rattle.tars_model.specs.declared.value.Value.TheOpen as value
 use Rattle.tars_model.specs.declared.value.Value.TheVariants as values
 use Rattle.tars_model.specs.declared.value.Value.TheVariants.{outs-Bool, outs-Num, outs-Text, outs-Blob, outs-List, outs-Map, outs-Struct}
 use Rattle.value_text.specs.Printed.{are_bytes, has_bytes, entry_bytes}
-use Rattle.value_text.specs.Spelling.{is_hexadecimal, is_marked, is_plain, PairSpells, UnitSpells, TextSpells, BlobSpells, Spells, Elements, Entries, Entry, Members}
+use Rattle.value_text.specs.Spelling.{is_hexadecimal, is_marked, is_plain, PairSpells, UnitSpells, TextSpells, BlobSpells, SpellsBy, ElementsBy, EntriesBy, EntryBy, MembersBy, ALL}
 use Rattle.value_text.specs.Spelling as spelling
 use Rattle.value_text.specs.ValueSteps.{as_entry}
 use Rattle.value_text.proofs.Keys.{placed_all}
@@ -53,7 +53,7 @@ abbrev both : Pair → Bool
 both p = (entry_bytes p).0 && (entry_bytes p).1
 
 mutual
-  pub value_octets : {d : Declared} {t : Ty} {v : Value} {bytes rest : List ℕ} → Spells d t v bytes rest → has_bytes v ≡ true
+  pub value_octets : {d : Declared} {t : Ty} {v : Value} {bytes rest : List ℕ} → SpellsBy ALL d t v bytes rest → has_bytes v ≡ true
   value_octets (spelling.truth b is v_is text) = ap has_bytes v_is ∙ bytes_at (values.Bool b) (value.Bool b) (outs-Bool b)
   value_octets (spelling.number n fits v_is says) = ap has_bytes v_is ∙ bytes_at (values.Num n) (value.Num n) (outs-Num n)
   value_octets (spelling.text s inside is v_is text inner) = ap has_bytes v_is ∙ bytes_at (values.Text s) (value.Text s) (outs-Text s) ∙ text_octets inner
@@ -66,18 +66,18 @@ mutual
       ∙ list_all-map (λ (p : Bool × Bool). p.0 && p.1) entry_bytes all ∙ placed_all both placed refl (entries_octets inner)
   value_octets (spelling.members k vs inside is v_is text inner) = ap has_bytes v_is ∙ bytes_at (values.Struct vs) (value.Struct vs) (outs-Struct vs) ∙ members_octets inner
 
-  elements_octets : {d : Declared} {of : Ty} {vs : List Value} {bytes rest : List ℕ} → Elements d of vs bytes rest → list_all (λ b. b) (map has_bytes vs) ≡ true
+  elements_octets : {d : Declared} {of : Ty} {vs : List Value} {bytes rest : List ℕ} → ElementsBy ALL d of vs bytes rest → list_all (λ b. b) (map has_bytes vs) ≡ true
   elements_octets (spelling.last_element next is closes) = and_from _ _ (value_octets is) refl
   elements_octets (spelling.more_elements next inside is comma others) = and_from _ _ (value_octets is) (elements_octets others)
 
-  entries_octets : {d : Declared} {key to : Ty} {ps : List Pair} {bytes rest : List ℕ} → Entries d key to ps bytes rest → list_all both ps ≡ true
+  entries_octets : {d : Declared} {key to : Ty} {ps : List Pair} {bytes rest : List ℕ} → EntriesBy ALL d key to ps bytes rest → list_all both ps ≡ true
   entries_octets (spelling.last_entry next is closes) = and_from _ _ (entry_octets is) refl
   entries_octets (spelling.more_entries next inside is comma others) = and_from _ _ (entry_octets is) (entries_octets others)
 
-  entry_octets : {d : Declared} {key to : Ty} {p : Pair} {bytes rest : List ℕ} → Entry d key to p bytes rest → both p ≡ true
+  entry_octets : {d : Declared} {key to : Ty} {p : Pair} {bytes rest : List ℕ} → EntryBy ALL d key to p bytes rest → both p ≡ true
   entry_octets (spelling.entry k v colon start p_is key_is sign value_is) =
       ap both p_is ∙ ap (λ (e : Bool × Bool). e.0 && e.1) (entry_bytes_out (as_entry k v)) ∙ and_from _ _ (value_octets key_is) (value_octets value_is)
 
-  members_octets : {d : Declared} {ms : List Member} {vs : List Value} {bytes rest : List ℕ} → Members d ms vs bytes rest → list_all (λ b. b) (map has_bytes vs) ≡ true
+  members_octets : {d : Declared} {ms : List Member} {vs : List Value} {bytes rest : List ℕ} → MembersBy ALL d ms vs bytes rest → list_all (λ b. b) (map has_bytes vs) ≡ true
   members_octets (spelling.no_members text) = refl
   members_octets (spelling.more_members equals start next after name sign is comma others) = and_from _ _ (value_octets is) (members_octets others)

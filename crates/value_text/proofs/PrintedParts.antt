@@ -18,7 +18,7 @@ use Rattle.tars_model.specs.declared.value.Value.TheVariants.{outs-Map, outs-Str
 use Rattle.tars_model.proofs.ToldLaws.{told_fits_map, told_fits_struct, entry_fits_is}
 use Rattle.value_text.specs.Answers.{IsEnd}
 use Rattle.value_text.specs.Printed.{Printing, listed, entry_text, entry_texts, member_text, member_texts, map_text, struct_text, printing, entry_printing, has_bytes, entry_bytes}
-use Rattle.value_text.specs.Spelling.{past_gap, Placed, Spells, Entries, Entry, Members}
+use Rattle.value_text.specs.Spelling.{past_gap, Placed, SpellsBy, EntriesBy, EntryBy, MembersBy, ALL}
 use Rattle.value_text.specs.Spelling as spelling
 use Rattle.value_text.proofs.Induction.{AllOf, OfPair, each_value}
 use Rattle.value_text.proofs.Layers.{map_printed, struct_printed, entry_printing_out}
@@ -71,7 +71,7 @@ module _ (d : Declared) (key to : Ty) (named : Named d) where
       ap (λ (e : Printing × Printing). entry_text (e.0 d key) (e.1 d to) ++ next) (entry_printing_out p)
       ∙ entry_glued (printing (out-Pair p).key d key) (printing (out-Pair p).value d to) next
 
-  entry_says : (p : Pair) → OfPair Says p → entry_fits d key to p ≡ true → both (entry_bytes p) ≡ true → (next : List ℕ) → IsEnd next → Entry d key to p (text_of d key to p ++ next) next
+  entry_says : (p : Pair) → OfPair Says p → entry_fits d key to p ≡ true → both (entry_bytes p) ≡ true → (next : List ℕ) → IsEnd next → EntryBy ALL d key to p (text_of d key to p ++ next) next
   entry_says p says fits bytes next ends =
       let k = (out-Pair p).key in
       let v = (out-Pair p).value in
@@ -79,19 +79,19 @@ module _ (d : Declared) (key to : Ty) (named : Named d) where
       let octets = and_parts (has_bytes k) (has_bytes v) (ap both (sym (entry_bytes_out p)) ∙ bytes) in
       let start = 32 ∷ (printing v d to ++ next) in
       let value_says = says.1 d to next named fit.1 octets.1 ends in
-      subst (λ (b : List ℕ). Entry d key to p b next) (sym (pair_text p next))
+      subst (λ (b : List ℕ). EntryBy ALL d key to p b next) (sym (pair_text p next))
       (spelling.entry k v (58 ∷ start) start (sym (roll-out-Pair p)) (says.0 d key (58 ∷ start) named fit.0 octets.0 refl) refl
-      (subst (λ (b : List ℕ). Spells d to v b next) (sym (gapless value_says)) value_says))
+      (subst (λ (b : List ℕ). SpellsBy ALL d to v b next) (sym (gapless value_says)) value_says))
 
-  entry_gapless : {p : Pair} {bytes rest : List ℕ} → Entry d key to p bytes rest → past_gap bytes ≡ bytes
+  entry_gapless : {p : Pair} {bytes rest : List ℕ} → EntryBy ALL d key to p bytes rest → past_gap bytes ≡ bytes
   entry_gapless (spelling.entry k v colon start p_is key_is sign value_is) = gapless key_is
 
-  entries_gapless : {ps : List Pair} {bytes rest : List ℕ} → Entries d key to ps bytes rest → past_gap bytes ≡ bytes
+  entries_gapless : {ps : List Pair} {bytes rest : List ℕ} → EntriesBy ALL d key to ps bytes rest → past_gap bytes ≡ bytes
   entries_gapless (spelling.last_entry next is closes) = entry_gapless is
   entries_gapless (spelling.more_entries next inside is comma others) = entry_gapless is
 
   entries_say : (rest : List ℕ) (p : Pair) (ps : List Pair) → OfPair Says p → AllOf (OfPair Says) ps → entry_fits d key to p ≡ true → list_all (entry_fits d key to) ps ≡ true → both (entry_bytes p) ≡ true → list_all both (map entry_bytes ps) ≡ true
-      → Entries d key to (p ∷ ps) (text_of d key to p ++ tail 125 rest (texts_of d key to ps)) rest
+      → EntriesBy ALL d key to (p ∷ ps) (text_of d key to p ++ tail 125 rest (texts_of d key to ps)) rest
   entries_say rest p [] says others fits all bytes octets = spelling.last_entry (125 ∷ rest) (entry_says p says fits bytes (125 ∷ rest) refl) refl
   entries_say rest p (q ∷ ps) says others fits all bytes octets =
       let next = tail 125 rest (texts_of d key to (q ∷ ps)) in
@@ -99,7 +99,7 @@ module _ (d : Declared) (key to : Ty) (named : Named d) where
       let parts = and_parts (entry_fits d key to q) _ all in
       let each = and_parts (both (entry_bytes q)) _ octets in
       let rest_says = entries_say rest q ps others.0 others.1 parts.0 parts.1 each.0 each.1 in
-      spelling.more_entries next (32 ∷ inside) (entry_says p says fits bytes next refl) refl (subst (λ (b : List ℕ). Entries d key to (q ∷ ps) b rest) (sym (entries_gapless rest_says)) rest_says)
+      spelling.more_entries next (32 ∷ inside) (entry_says p says fits bytes next refl) refl (subst (λ (b : List ℕ). EntriesBy ALL d key to (q ∷ ps) b rest) (sym (entries_gapless rest_says)) rest_says)
 
 map_says : (ps : List Pair) → AllOf (OfPair Says) ps → Says (values.Map ps)
 map_says ps all d t rest named fits bytes ends =
@@ -109,7 +109,7 @@ map_says ps all d t rest named fits bytes ends =
     by_entries is.0 is.1 ps all is.2 is.3 is.4 octets shown
   where
     by_entries : (key to : Ty) (qs : List Pair) → AllOf (OfPair Says) qs → out-Ty t ≡ ty.Map key to → keys_rise (map entry_key qs) ≡ true → list_all (entry_fits d key to) qs ≡ true → list_all both (map entry_bytes qs) ≡ true
-        → printing (values.Map qs) d t ≡ map_text (map entry_printing qs) d (ty.Map key to) → Spells d t (values.Map qs) (printing (values.Map qs) d t ++ rest) rest
+        → printing (values.Map qs) d t ≡ map_text (map entry_printing qs) d (ty.Map key to) → SpellsBy ALL d t (values.Map qs) (printing (values.Map qs) d t ++ rest) rest
     by_entries key to [] says is rise fit octets shown = spelling.no_entries key to (125 ∷ rest) is refl (ap (λ (l : List ℕ). l ++ rest) shown) refl
     by_entries key to (p ∷ qs) says is rise fit octets shown =
         let parts = and_parts (entry_fits d key to p) _ fit in
@@ -118,7 +118,7 @@ map_says ps all d t rest named fits bytes ends =
         let inner = entries_say d key to named rest p qs says.0 says.1 parts.0 parts.1 each.0 each.1 in
         spelling.entries key to (p ∷ qs) (p ∷ qs) inside is refl
         (ap (λ (l : List ℕ). l ++ rest) shown ∙ whole 123 125 rest (text_of d key to p) (texts_of d key to qs))
-        (subst (λ (b : List ℕ). Entries d key to (p ∷ qs) b rest) (sym (entries_gapless d key to named inner)) inner)
+        (subst (λ (b : List ℕ). EntriesBy ALL d key to (p ∷ qs) b rest) (sym (entries_gapless d key to named inner)) inner)
         (in_order [] (p ∷ qs) rise)
 
 -- ---- structs
@@ -136,13 +136,13 @@ module _ (d : Declared) (named : Named d) where
   name_gapless m v next has = letter_no_gap (member_text m.name (printing v d m.ty) ++ next) (ap (begins is_ascii_alphabetic) (name_text m v next) ∙ letter_front m.name (61 ∷ (printing v d m.ty ++ next)) has)
 
   members_say : (rest : List ℕ) (m : Member) (ms : List Member) (v : Value) (vs : List Value) → HasLetter m → AllOf HasLetter ms → Says v → SaysAll vs → (told v).fits d m.ty ≡ true → fit_told d ms (map told vs) ≡ true → has_bytes v ≡ true → list_all (λ b. b) (map has_bytes vs) ≡ true
-      → Members d (m ∷ ms) (v ∷ vs) (member_text m.name (printing v d m.ty) ++ tail 41 rest (member_texts d ms (map printing vs))) rest
+      → MembersBy ALL d (m ∷ ms) (v ∷ vs) (member_text m.name (printing v d m.ty) ++ tail 41 rest (member_texts d ms (map printing vs))) rest
   members_say rest m [] v [] has all says others fits fit bytes octets =
       let next = 41 ∷ rest in
       let start = printing v d m.ty ++ next in
       let value_says = says d m.ty next named fits bytes refl in
-      subst (λ (b : List ℕ). Members d (m ∷ []) (v ∷ []) b rest) (sym (name_text m v next))
-      (spelling.more_members (61 ∷ start) start next next refl refl (subst (λ (b : List ℕ). Spells d m.ty v b next) (sym (gapless value_says)) value_says) refl (spelling.no_members refl))
+      subst (λ (b : List ℕ). MembersBy ALL d (m ∷ []) (v ∷ []) b rest) (sym (name_text m v next))
+      (spelling.more_members (61 ∷ start) start next next refl refl (subst (λ (b : List ℕ). SpellsBy ALL d m.ty v b next) (sym (gapless value_says)) value_says) refl (spelling.no_members refl))
   members_say rest m [] v (w ∷ vs) has all says others fits fit bytes octets = absurd cc
   members_say rest m (n ∷ ms) v [] has all says others fits fit bytes octets = absurd cc
   members_say rest m (n ∷ ms) v (w ∷ vs) has all says others fits fit bytes octets =
@@ -154,9 +154,9 @@ module _ (d : Declared) (named : Named d) where
       let value_says = says d m.ty next named fits bytes refl in
       let rest_says = members_say rest n ms w vs all.0 all.1 others.0 others.1 parts.0 parts.1 each.0 each.1 in
       let gap = name_gapless n w (tail 41 rest (member_texts d ms (map printing vs))) all.0 in
-      subst (λ (b : List ℕ). Members d (m ∷ n ∷ ms) (v ∷ w ∷ vs) b rest) (sym (name_text m v next))
-      (spelling.more_members (61 ∷ start) start next (past_gap inside) refl refl (subst (λ (b : List ℕ). Spells d m.ty v b next) (sym (gapless value_says)) value_says) (32 ∷ inside, refl, refl)
-      (subst (λ (b : List ℕ). Members d (n ∷ ms) (w ∷ vs) b rest) (sym gap) rest_says))
+      subst (λ (b : List ℕ). MembersBy ALL d (m ∷ n ∷ ms) (v ∷ w ∷ vs) b rest) (sym (name_text m v next))
+      (spelling.more_members (61 ∷ start) start next (past_gap inside) refl refl (subst (λ (b : List ℕ). SpellsBy ALL d m.ty v b next) (sym (gapless value_says)) value_says) (32 ∷ inside, refl, refl)
+      (subst (λ (b : List ℕ). MembersBy ALL d (n ∷ ms) (w ∷ vs) b rest) (sym gap) rest_says))
 
 struct_says : (vs : List Value) → SaysAll vs → Says (values.Struct vs)
 struct_says vs all d t rest named fits bytes ends =
@@ -167,7 +167,7 @@ struct_says vs all d t rest named fits bytes ends =
     spelling.members is.0 vs inner.0 is.1 refl (ap (λ (l : List ℕ). l ++ rest) shown ∙ inner.1) inner.2
   where
     by_members : (ms : List Member) → AllOf HasLetter ms → (us : List Value) → SaysAll us → fit_told d ms (map told us) ≡ true → list_all (λ b. b) (map has_bytes us) ≡ true
-        → (inside : List ℕ) × ((40 ∷ (listed [] (member_texts d ms (map printing us)) ++ 41 ∷ [])) ++ rest ≡ 40 ∷ inside) × Members d ms us (past_gap inside) rest
+        → (inside : List ℕ) × ((40 ∷ (listed [] (member_texts d ms (map printing us)) ++ 41 ∷ [])) ++ rest ≡ 40 ∷ inside) × MembersBy ALL d ms us (past_gap inside) rest
     by_members [] has [] says fit octets = (41 ∷ rest, refl, spelling.no_members refl)
     by_members [] has (u ∷ us) says fit octets = absurd cc
     by_members (m ∷ ms) has [] says fit octets = absurd cc
@@ -177,7 +177,7 @@ struct_says vs all d t rest named fits bytes ends =
         let texts = member_texts d ms (map printing us) in (
           member_text m.name (printing u d m.ty) ++ tail 41 rest texts,
           whole 40 41 rest (member_text m.name (printing u d m.ty)) texts,
-          subst (λ (b : List ℕ). Members d (m ∷ ms) (u ∷ us) b rest) (sym (name_gapless d named m u (tail 41 rest texts) has.0))
+          subst (λ (b : List ℕ). MembersBy ALL d (m ∷ ms) (u ∷ us) b rest) (sym (name_gapless d named m u (tail 41 rest texts) has.0))
               (members_say d named rest m ms u us has.0 has.1 says.0 says.1 parts.0 parts.1 each.0 each.1),
         )
 

@@ -1,12 +1,16 @@
 -- What is printed for a value that fits says this value, where no letter, digit or `_` follows.
-use Rattle.std.proofs.Common.{◌≡◌, ℕ, ℤ, Bool, true, false, not, List, [], ◌∷◌, ◌++◌, codes, length, map, refl, sym, ap, ◌∙◌, subst, inr, append_assoc, arith}
+use Rattle.std.proofs.Common.{◌≡◌, ◌<◌, ◌^◌, ℕ, zero, suc, ℤ, pos, negsuc, Bool, true, false, not, List, [], ◌∷◌, ◌++◌, codes, length, get_or, map, decimal, refl, sym, ap, ◌∙◌, subst, append_assoc, arith, ltb-true}
 use Rattle.std.proofs.lemmas.Bool.{and_parts}
 use Rattle.std.proofs.lemmas.Bool.Decides.{nat_tests}
+use Rattle.std.proofs.lemmas.Fmt.{digits_decimal, digits_value-decimal, decimal_nonempty, first_decimal, decimal_digit}
+use Rattle.std.specs.Fmt.{signed_decimal}
 use Rattle.std.specs.List.{list_all}
+use Rattle.std.specs.Str.Parse.{digits_value}
 use Rattle.idl_parse.specs.Bytes.{begins, is_word_byte}
+use Rattle.idl_parse.specs.LexSteps.{run}
 use Rattle.tars_model.specs.Declarations.{Declared, members_at}
 use Rattle.tars_model.specs.Types.{TyLayer}
-use Rattle.tars_model.specs.Values.{Told, told, told_entry, is_bool, is_byte, fits_text, fits_blob, fits_list, fits_map, fits_struct, fit_told, entry_fits, entry_key, keys_rise}
+use Rattle.tars_model.specs.Values.{Told, told, told_entry, is_bool, is_byte, is_signed, fits_text, fits_blob, fits_list, fits_map, fits_struct, fit_told, entry_fits, entry_key, keys_rise}
 use Rattle.tars_model.specs.declared.ty.Ty.{Ty, out-Ty}
 use Rattle.tars_model.specs.declared.ty.Ty.TheOpen as ty
 use Rattle.tars_model.specs.declared.value.Pair.{Pair, out-Pair, fold_out-Pair}
@@ -17,13 +21,16 @@ use Rattle.tars_model.specs.declared.value.Value.TheVariants.{outs-Text, outs-Bl
 use Rattle.tars_model.proofs.ToldLaws.{told_fits_bool, told_fits_num, told_fits_text, told_fits_blob, told_fits_list, all_told, all_entries, entry_keys}
 use Rattle.value_text.specs.Answers.{IsEnd}
 use Rattle.value_text.specs.Printed.{listed, element_texts, list_text, printing, bytes_layer, bytes_pair, has_bytes, entry_bytes}
-use Rattle.value_text.specs.Spelling.{past_gap, is_decimal, Placed, Spells, Elements, Entries, Entry, Members}
+use Rattle.value_text.specs.Spelling.{past_gap, is_decimal, is_positive, NaturalSpells, NumberSpells, Placed, SpellsBy, ElementsBy, EntriesBy, EntryBy, MembersBy, ALL}
 use Rattle.value_text.specs.Spelling as spelling
 use Rattle.value_text.proofs.Induction.{AllOf}
+use Rattle.value_text.proofs.NumberLaws.{passing}
 use Rattle.value_text.proofs.Layers.{ValueLayer, bool_printed, num_printed, text_printed, blob_printed, list_printed}
+use Rattle.value_text.proofs.Moving.Runs.{run_stops, after_stops}
 use Rattle.value_text.proofs.Opening.{value_opens, no_gap}
 use Rattle.value_text.proofs.PrintedTexts.{quoted_spells, blob_spells}
 use Rattle.value_text.proofs.SchemaNames.{Named}
+use Rattle.value_text.proofs.Sizes.{long_number}
 
 -- ---- bytes of the parts
 
@@ -93,17 +100,35 @@ whole opening close rest text texts =
 
 -- what is printed says the value
 abbrev pub Says : Value → Type 0
-Says v = (d : Declared) (t : Ty) (rest : List ℕ) → Named d → (told v).fits d t ≡ true → has_bytes v ≡ true → IsEnd rest → Spells d t v (printing v d t ++ rest) rest
+Says v = (d : Declared) (t : Ty) (rest : List ℕ) → Named d → (told v).fits d t ≡ true → has_bytes v ≡ true → IsEnd rest → SpellsBy ALL d t v (printing v d t ++ rest) rest
 
 abbrev pub SaysAll : List Value → Type 0
 SaysAll vs = AllOf Says vs
 
-word_no_digit : (b : ℕ) → is_word_byte b ≡ false → is_decimal b ≡ false
+pub word_no_digit : (b : ℕ) → is_word_byte b ≡ false → is_decimal b ≡ false
 word_no_digit b h = grind (arith, nat_tests)
 
-no_decimal : (rest : List ℕ) → IsEnd rest → begins is_decimal rest ≡ false
+pub no_decimal : (rest : List ℕ) → IsEnd rest → begins is_decimal rest ≡ false
 no_decimal [] h = refl
 no_decimal (b ∷ rest) h = word_no_digit b h
+
+natural_says : (n : ℕ) (rest : List ℕ) → n < 2 ^ 64 → begins is_decimal rest ≡ false → NaturalSpells n (decimal n ++ rest) rest
+natural_says zero rest small stops = spelling.nought refl (ap (λ (l : List ℕ). l ++ rest) (decimal_digit 0 (omega arith)))
+natural_says (suc n) rest small stops =
+    let passes = digits_decimal passing (suc n) small in
+    let value : suc n ≡ digits_value 10 (run is_decimal (decimal (suc n) ++ rest)) = sym (ap (digits_value 10) (run_stops is_decimal (decimal (suc n)) rest passes stops) ∙ digits_value-decimal passing (suc n) small) in
+    spelling.positive (first_is (decimal (suc n)) (decimal_nonempty (suc n) small) passes (first_decimal (suc n) (omega arith) small)) value (sym (after_stops is_decimal (decimal (suc n)) rest passes stops))
+  where
+    high : (b : ℕ) → 48 < b → is_decimal b ≡ true → is_positive b ≡ true
+    high b less h = grind (arith, nat_tests)
+
+    first_is : (ds : List ℕ) → 0 < length ds → list_all is_decimal ds ≡ true → 48 < get_or ds 0 0 → begins is_positive (ds ++ rest) ≡ true
+    first_is [] some passes large = absurd (omega arith)
+    first_is (b ∷ ds) some passes large = high b large (and_parts (is_decimal b) (list_all is_decimal ds) passes).0
+
+decimal_says : (n : ℤ) (rest : List ℕ) → is_signed 63 n ≡ true → begins is_decimal rest ≡ false → NumberSpells n (signed_decimal n ++ rest) rest
+decimal_says (pos n) rest long stops = spelling.natural n refl (natural_says n rest (omega (arith, ltb-true n (2 ^ 63) long)) stops)
+decimal_says (negsuc n) rest long stops = spelling.negative n (decimal (suc n) ++ rest) refl refl (natural_says (suc n) rest (omega (arith, ltb-true n (2 ^ 63) long)) stops)
 
 pub bool_says : (b : Bool) → Says (values.Bool b)
 bool_says b d t rest named fits bytes ends =
@@ -112,7 +137,7 @@ bool_says b d t rest named fits bytes ends =
 pub num_says : (n : ℤ) → Says (values.Num n)
 num_says n d t rest named fits bytes ends =
     spelling.number n (sym (told_fits_num (values.Num n) d t n refl) ∙ fits) refl
-    (spelling.digits_of (record { text = ap (λ (l : List ℕ). l ++ rest) (num_printed (values.Num n) d t n refl); ends = inr (no_decimal rest ends) }))
+    (spelling.digits_of (subst (λ (b : List ℕ). NumberSpells n b rest) (ap (λ (l : List ℕ). l ++ rest) (sym (num_printed (values.Num n) d t n refl))) (decimal_says n rest (long_number (out-Ty t) n (sym (told_fits_num (values.Num n) d t n refl) ∙ fits)) (no_decimal rest ends))))
 
 pub text_says : (s : List ℕ) → Says (values.Text s)
 text_says s d t rest named fits bytes ends =
@@ -129,12 +154,12 @@ blob_says s d t rest named fits bytes ends =
 -- ---- lists
 
 -- no gap stands before what is spelled
-pub gapless : {d : Declared} {t : Ty} {v : Value} {bytes rest : List ℕ} → Spells d t v bytes rest → past_gap bytes ≡ bytes
+pub gapless : {d : Declared} {t : Ty} {v : Value} {bytes rest : List ℕ} → SpellsBy ALL d t v bytes rest → past_gap bytes ≡ bytes
 gapless {bytes = bytes} s = no_gap bytes (value_opens s)
 
 module _ (d : Declared) (of : Ty) (named : Named d) (rest : List ℕ) where
   elements_say : (v : Value) (vs : List Value) → Says v → SaysAll vs → (told v).fits d of ≡ true → list_all (λ v. (told v).fits d of) vs ≡ true → has_bytes v ≡ true → list_all (λ b. b) (map has_bytes vs) ≡ true
-      → Elements d of (v ∷ vs) (printing v d of ++ tail 93 rest (element_texts d of (map printing vs))) rest
+      → ElementsBy ALL d of (v ∷ vs) (printing v d of ++ tail 93 rest (element_texts d of (map printing vs))) rest
   elements_say v [] says others fits all bytes all_bytes = spelling.last_element (93 ∷ rest) (says d of (93 ∷ rest) named fits bytes refl) refl
   elements_say v (w ∷ vs) says others fits all bytes all_bytes =
       let next = tail 93 rest (element_texts d of (map printing (w ∷ vs))) in
@@ -142,9 +167,9 @@ module _ (d : Declared) (of : Ty) (named : Named d) (rest : List ℕ) where
       let parts = and_parts ((told w).fits d of) _ all in
       let octets = and_parts (has_bytes w) _ all_bytes in
       let rest_says = elements_say w vs others.0 others.1 parts.0 parts.1 octets.0 octets.1 in
-      spelling.more_elements next (32 ∷ inside) (says d of next named fits bytes refl) refl (subst (λ (b : List ℕ). Elements d of (w ∷ vs) b rest) (sym (first_gapless rest_says)) rest_says)
+      spelling.more_elements next (32 ∷ inside) (says d of next named fits bytes refl) refl (subst (λ (b : List ℕ). ElementsBy ALL d of (w ∷ vs) b rest) (sym (first_gapless rest_says)) rest_says)
     where
-      first_gapless : {vs : List Value} {bytes : List ℕ} → Elements d of vs bytes rest → past_gap bytes ≡ bytes
+      first_gapless : {vs : List Value} {bytes : List ℕ} → ElementsBy ALL d of vs bytes rest → past_gap bytes ≡ bytes
       first_gapless (spelling.last_element next is closes) = gapless is
       first_gapless (spelling.more_elements next inside is comma others) = gapless is
 
@@ -156,7 +181,7 @@ list_says vs all d t rest named fits bytes ends =
     by_values is.0 vs all is.1 is.2 is.3 octets shown
   where
     by_values : (of : Ty) (us : List Value) → SaysAll us → out-Ty t ≡ ty.Vector of → is_byte (out-Ty of) ≡ false → list_all (λ v. (told v).fits d of) us ≡ true → list_all (λ b. b) (map has_bytes us) ≡ true
-        → printing (values.List us) d t ≡ list_text (map printing us) d (ty.Vector of) → Spells d t (values.List us) (printing (values.List us) d t ++ rest) rest
+        → printing (values.List us) d t ≡ list_text (map printing us) d (ty.Vector of) → SpellsBy ALL d t (values.List us) (printing (values.List us) d t ++ rest) rest
     by_values of [] says is other fit octets shown = spelling.no_elements of (93 ∷ rest) is other refl (ap (λ (l : List ℕ). l ++ rest) shown) refl
     by_values of (v ∷ us) says is other fit octets shown =
         let parts = and_parts ((told v).fits d of) _ fit in
@@ -165,8 +190,8 @@ list_says vs all d t rest named fits bytes ends =
         let inner = elements_say d of named rest v us says.0 says.1 parts.0 parts.1 each.0 each.1 in
         spelling.elements of (v ∷ us) inside is other refl
         (ap (λ (l : List ℕ). l ++ rest) shown ∙ whole 91 93 rest (printing v d of) (element_texts d of (map printing us)))
-        (subst (λ (b : List ℕ). Elements d of (v ∷ us) b rest) (sym (open_gapless inner)) inner)
+        (subst (λ (b : List ℕ). ElementsBy ALL d of (v ∷ us) b rest) (sym (open_gapless inner)) inner)
       where
-        open_gapless : {us : List Value} {bytes : List ℕ} → Elements d of us bytes rest → past_gap bytes ≡ bytes
+        open_gapless : {us : List Value} {bytes : List ℕ} → ElementsBy ALL d of us bytes rest → past_gap bytes ≡ bytes
         open_gapless (spelling.last_element next is closes) = gapless is
         open_gapless (spelling.more_elements next inside is comma others) = gapless is

@@ -80,7 +80,7 @@ quoted_spells s rest all =
 
 -- ---- blobs
 
-digit_is_word : (b : ℕ) → is_word_byte b ≡ false → is_hexadecimal b ≡ false
+pub digit_is_word : (b : ℕ) → is_word_byte b ≡ false → is_hexadecimal b ≡ false
 digit_is_word b h = grind (arith, nat_tests)
 
 pub no_digit : (rest : List ℕ) → begins is_word_byte rest ≡ false → begins is_hexadecimal rest ≡ false

@@ -15,13 +15,13 @@ use Rattle.value_text.proofs.Signs.{okay, read_ok, gives}
 -- ---- pairs of digits
 
 -- a digit with its value
-record DigitStands (n : ℕ) (bytes rest : List ℕ) : Type 0 where
-  digit : ℕ
-  text : bytes ≡ digit ∷ rest
-  passes : is_hexadecimal digit ≡ true
-  value : n ≡ digit_value digit
+pub record DigitStands (n : ℕ) (bytes rest : List ℕ) : Type 0 where
+  pub digit : ℕ
+  pub text : bytes ≡ digit ∷ rest
+  pub passes : is_hexadecimal digit ≡ true
+  pub value : n ≡ digit_value digit
 
-digit_stands : (n : ℕ) (bytes rest : List ℕ) → digit_at bytes ≡ Ok (n, rest) → DigitStands n bytes rest
+pub digit_stands : (n : ℕ) (bytes rest : List ℕ) → digit_at bytes ≡ Ok (n, rest) → DigitStands n bytes rest
 unfolding digit_at
 digit_stands n [] rest e = absurd cc
 digit_stands n (b ∷ bytes) rest e = by_test (is_hexadecimal b) refl e
@@ -86,11 +86,11 @@ pair_is_read b bytes rest p =
 -- ---- units of texts
 
 -- what a reader of units found: a byte, or the quote
-abbrev TextUnit : Option ℕ → List ℕ → List ℕ → Type 0
+abbrev pub TextUnit : Option ℕ → List ℕ → List ℕ → Type 0
 TextUnit None bytes rest = bytes ≡ 34 ∷ rest
 TextUnit (Some b) bytes rest = UnitSpells b bytes rest
 
-text_unit_stands : (u : Option ℕ) (bytes rest : List ℕ) → text_unit_at bytes ≡ Ok (u, rest) → TextUnit u bytes rest
+pub text_unit_stands : (u : Option ℕ) (bytes rest : List ℕ) → text_unit_at bytes ≡ Ok (u, rest) → TextUnit u bytes rest
 unfolding text_unit_at escape_at
 text_unit_stands u [] rest e = absurd cc
 text_unit_stands u (b ∷ bytes) rest e = quote u (b == 34) (eqb-true b 34) refl e
@@ -157,7 +157,7 @@ digits_read : (b : ℕ) (inside rest : List ℕ) → PairSpells b inside rest �
 unfolding text_unit_at escape_at
 digits_read b inside rest p = pair_is_read b inside rest p
 
-unit_is_read : (b : ℕ) (bytes rest : List ℕ) → UnitSpells b bytes rest → text_unit_at bytes ≡ Ok (Some b, rest)
+pub unit_is_read : (b : ℕ) (bytes rest : List ℕ) → UnitSpells b bytes rest → text_unit_at bytes ≡ Ok (Some b, rest)
 unit_is_read b bytes rest (plain is text) = ap text_unit_at text ∙ plain_read b rest is
 unit_is_read b bytes rest (marked is text) = ap text_unit_at text ∙ marked_read b rest is
 unit_is_read b bytes rest (digits inside text pair) = ap text_unit_at text ∙ digits_read b inside rest pair
@@ -189,11 +189,11 @@ text_stands (suc count) text bytes rest e =
 
 -- ---- whole blobs
 
-abbrev BlobUnit : Option ℕ → List ℕ → List ℕ → Type 0
+abbrev pub BlobUnit : Option ℕ → List ℕ → List ℕ → Type 0
 BlobUnit None bytes rest = (bytes ≡ rest) × (begins is_hexadecimal bytes ≡ false)
 BlobUnit (Some b) bytes rest = PairSpells b bytes rest
 
-blob_unit_stands : (u : Option ℕ) (bytes rest : List ℕ) → blob_unit_at bytes ≡ Ok (u, rest) → BlobUnit u bytes rest
+pub blob_unit_stands : (u : Option ℕ) (bytes rest : List ℕ) → blob_unit_at bytes ≡ Ok (u, rest) → BlobUnit u bytes rest
 unfolding blob_unit_at
 blob_unit_stands u bytes rest e = by_test u (begins is_hexadecimal bytes) refl e
   where
@@ -225,10 +225,10 @@ blob_stands (suc count) blob bytes rest e =
 
 -- ---- what is spelled is read
 
-pair_shorter : (b : ℕ) (bytes rest : List ℕ) → PairSpells b bytes rest → length rest + 2 ≡ length bytes
+pub pair_shorter : (b : ℕ) (bytes rest : List ℕ) → PairSpells b bytes rest → length rest + 2 ≡ length bytes
 pair_shorter b bytes rest p = rw p.text (omega arith)
 
-unit_shorter : (b : ℕ) (bytes rest : List ℕ) → UnitSpells b bytes rest → length rest < length bytes
+pub unit_shorter : (b : ℕ) (bytes rest : List ℕ) → UnitSpells b bytes rest → length rest < length bytes
 unit_shorter b bytes rest (plain is text) = rw text (omega arith)
 unit_shorter b bytes rest (marked is text) = rw text (omega arith)
 unit_shorter b bytes rest (digits inside text pair) = let two = pair_shorter b inside rest pair in rw text (omega arith)

@@ -1,9 +1,9 @@
 -- What texts say a value (docs/SCRIPTS.md, "Value text"). In each definition the bytes begin with the text, and the rest
 -- comes after it.
-use Rattle.std.specs.Prelude.{◌≡◌, ◌⊎◌, ℕ, ◌+◌, ◌*◌, ◌==◌, nat_le, Bool, true, false, ◌&&◌, ◌||◌, not, if◌then◌else◌, ℤ, pos, Option, Some, None, List, [], ◌∷◌, ◌++◌, map, codes}
+use Rattle.std.specs.Prelude.{◌≡◌, ℕ, suc, ◌+◌, ◌*◌, ◌==◌, nat_le, Bool, true, false, ◌&&◌, ◌||◌, not, if◌then◌else◌, ℤ, pos, negsuc, Option, Some, None, List, [], ◌∷◌, ◌++◌, map, codes}
 use Rattle.std.specs.Char.{is_ascii_alphabetic, is_digit, digit_value}
-use Rattle.std.specs.Fmt.{signed_decimal}
 use Rattle.std.specs.Str.{bytes_eq}
+use Rattle.std.specs.Str.Parse.{digits_value}
 use Rattle.canonical_text.specs.Canonical.{truth_word}
 use Rattle.idl_parse.specs.Bytes.{begins, is_word_byte}
 use Rattle.idl_parse.specs.LexSteps.{run, after_run}
@@ -30,10 +30,20 @@ past_gap (b ∷ rest) = if b == 32 || b == 10 then past_gap rest else b ∷ rest
 abbrev pub is_decimal : ℕ → Bool
 is_decimal b = is_digit b 10
 
--- a number in decimal digits; further digits would be its own, but 0 ends with its digit
-pub record NumberSpells (n : ℤ) (bytes rest : List ℕ) : Type 0 where
-  pub text : bytes ≡ signed_decimal n ++ rest
-  pub ends : (n ≡ pos 0) ⊎ (begins is_decimal rest ≡ false)
+-- 1 to 9
+abbrev pub is_positive : ℕ → Bool
+is_positive b = nat_le 49 b && nat_le b 57
+
+-- A natural number of any size in decimal digits: 0 is one digit; another has no leading zero, and all digits that
+-- follow are its own.
+pub data NaturalSpells (n : ℕ) (bytes rest : List ℕ) : Type 0 where
+  nought : n ≡ 0 → bytes ≡ codes "0" ++ rest → NaturalSpells n bytes rest
+  positive : begins is_positive bytes ≡ true → n ≡ digits_value 10 (run is_decimal bytes) → rest ≡ after_run is_decimal bytes → NaturalSpells n bytes rest
+
+-- a whole number of any size, a minus before it if it is negative
+pub data NumberSpells (n : ℤ) (bytes rest : List ℕ) : Type 0 where
+  natural : (m : ℕ) → n ≡ pos m → NaturalSpells m bytes rest → NumberSpells n bytes rest
+  negative : (m : ℕ) (inside : List ℕ) → n ≡ negsuc m → bytes ≡ codes "-" ++ inside → NaturalSpells (suc m) inside rest → NumberSpells n bytes rest
 
 -- the number of the first enumerator of a name
 unfoldable pub number_named : List Item → List ℕ → Option ℤ
@@ -102,34 +112,71 @@ abbrev pub Comma : List Member → List ℕ → List ℕ → Type 0
 Comma [] bytes rest = rest ≡ bytes
 Comma (m ∷ ms) bytes rest = (inside : List ℕ) × (bytes ≡ codes "," ++ inside) × (rest ≡ past_gap inside)
 
+-- which rules are kept beside the form: numbers are in their types' ranges, no key stands twice in a map
+pub record Rules : Type 0 where
+  pub ranges : Bool
+  pub keys : Bool
+
+-- the form alone, and all rules
+abbrev pub FORM : Rules
+FORM = record { ranges = false; keys = false }
+
+abbrev pub ALL : Rules
+ALL = record { ranges = true; keys = true }
+
+-- a type that has numbers has 0
+abbrev pub has_numbers : TyLayer → Bool
+has_numbers t = is_number_of t (pos 0)
+
+-- a number of the type; any, where ranges are not kept
+abbrev pub is_number_by : Bool → TyLayer → ℤ → Bool
+is_number_by true t n = is_number_of t n
+is_number_by false t n = has_numbers t
+
+-- the entries of a map by those of the text; the same, where keys may stand twice
+abbrev pub PlacedBy : Bool → List Pair → List Pair → Type 0
+PlacedBy true ps all = Placed [] ps all
+PlacedBy false ps all = all ≡ ps
+
 mutual
   -- a value of a type over what is declared
-  pub data Spells (d : Declared) : Ty → Value → List ℕ → List ℕ → Type 0 where
-    truth : {t : Ty} {v : Value} {bytes rest : List ℕ} (b : Bool) → out-Ty t ≡ ty.Bool → v ≡ values.Bool b → bytes ≡ truth_word b ++ rest → Spells d t v bytes rest
-    number : {t : Ty} {v : Value} {bytes rest : List ℕ} (n : ℤ) → is_number_of (out-Ty t) n ≡ true → v ≡ values.Num n → SaysNumber d (out-Ty t) n bytes rest → Spells d t v bytes rest
-    text : {t : Ty} {v : Value} {bytes rest : List ℕ} (s inside : List ℕ) → out-Ty t ≡ ty.Text → v ≡ values.Text s → bytes ≡ codes "\"" ++ inside → TextSpells s inside rest → Spells d t v bytes rest
-    blob : {t : Ty} {v : Value} {bytes rest : List ℕ} (of : Ty) (s inside : List ℕ) → out-Ty t ≡ ty.Vector of → is_byte (out-Ty of) ≡ true → v ≡ values.Blob s → bytes ≡ codes "#" ++ inside → BlobSpells s inside rest → Spells d t v bytes rest
-    no_elements : {t : Ty} {v : Value} {bytes rest : List ℕ} (of : Ty) (inside : List ℕ) → out-Ty t ≡ ty.Vector of → is_byte (out-Ty of) ≡ false → v ≡ values.List [] → bytes ≡ codes "[" ++ inside → past_gap inside ≡ codes "]" ++ rest → Spells d t v bytes rest
-    elements : {t : Ty} {v : Value} {bytes rest : List ℕ} (of : Ty) (vs : List Value) (inside : List ℕ) → out-Ty t ≡ ty.Vector of → is_byte (out-Ty of) ≡ false → v ≡ values.List vs → bytes ≡ codes "[" ++ inside → Elements d of vs (past_gap inside) rest → Spells d t v bytes rest
-    no_entries : {t : Ty} {v : Value} {bytes rest : List ℕ} (key to : Ty) (inside : List ℕ) → out-Ty t ≡ ty.Map key to → v ≡ values.Map [] → bytes ≡ codes "{" ++ inside → past_gap inside ≡ codes "}" ++ rest → Spells d t v bytes rest
-    entries : {t : Ty} {v : Value} {bytes rest : List ℕ} (key to : Ty) (ps all : List Pair) (inside : List ℕ) → out-Ty t ≡ ty.Map key to → v ≡ values.Map all → bytes ≡ codes "{" ++ inside → Entries d key to ps (past_gap inside) rest → Placed [] ps all → Spells d t v bytes rest
-    members : {t : Ty} {v : Value} {bytes rest : List ℕ} (k : ℕ) (vs : List Value) (inside : List ℕ) → out-Ty t ≡ ty.Struct k → v ≡ values.Struct vs → bytes ≡ codes "(" ++ inside → Members d (members_at d k) vs (past_gap inside) rest → Spells d t v bytes rest
+  pub data SpellsBy (rules : Rules) (d : Declared) : Ty → Value → List ℕ → List ℕ → Type 0 where
+    truth : {t : Ty} {v : Value} {bytes rest : List ℕ} (b : Bool) → out-Ty t ≡ ty.Bool → v ≡ values.Bool b → bytes ≡ truth_word b ++ rest → SpellsBy rules d t v bytes rest
+    number : {t : Ty} {v : Value} {bytes rest : List ℕ} (n : ℤ) → is_number_by rules.ranges (out-Ty t) n ≡ true → v ≡ values.Num n → SaysNumber d (out-Ty t) n bytes rest → SpellsBy rules d t v bytes rest
+    text : {t : Ty} {v : Value} {bytes rest : List ℕ} (s inside : List ℕ) → out-Ty t ≡ ty.Text → v ≡ values.Text s → bytes ≡ codes "\"" ++ inside → TextSpells s inside rest → SpellsBy rules d t v bytes rest
+    blob : {t : Ty} {v : Value} {bytes rest : List ℕ} (of : Ty) (s inside : List ℕ) → out-Ty t ≡ ty.Vector of → is_byte (out-Ty of) ≡ true → v ≡ values.Blob s → bytes ≡ codes "#" ++ inside → BlobSpells s inside rest → SpellsBy rules d t v bytes rest
+    no_elements : {t : Ty} {v : Value} {bytes rest : List ℕ} (of : Ty) (inside : List ℕ) → out-Ty t ≡ ty.Vector of → is_byte (out-Ty of) ≡ false → v ≡ values.List [] → bytes ≡ codes "[" ++ inside → past_gap inside ≡ codes "]" ++ rest → SpellsBy rules d t v bytes rest
+    elements : {t : Ty} {v : Value} {bytes rest : List ℕ} (of : Ty) (vs : List Value) (inside : List ℕ) → out-Ty t ≡ ty.Vector of → is_byte (out-Ty of) ≡ false → v ≡ values.List vs → bytes ≡ codes "[" ++ inside → ElementsBy rules d of vs (past_gap inside) rest → SpellsBy rules d t v bytes rest
+    no_entries : {t : Ty} {v : Value} {bytes rest : List ℕ} (key to : Ty) (inside : List ℕ) → out-Ty t ≡ ty.Map key to → v ≡ values.Map [] → bytes ≡ codes "{" ++ inside → past_gap inside ≡ codes "}" ++ rest → SpellsBy rules d t v bytes rest
+    entries : {t : Ty} {v : Value} {bytes rest : List ℕ} (key to : Ty) (ps all : List Pair) (inside : List ℕ) → out-Ty t ≡ ty.Map key to → v ≡ values.Map all → bytes ≡ codes "{" ++ inside → EntriesBy rules d key to ps (past_gap inside) rest → PlacedBy rules.keys ps all → SpellsBy rules d t v bytes rest
+    members : {t : Ty} {v : Value} {bytes rest : List ℕ} (k : ℕ) (vs : List Value) (inside : List ℕ) → out-Ty t ≡ ty.Struct k → v ≡ values.Struct vs → bytes ≡ codes "(" ++ inside → MembersBy rules d (members_at d k) vs (past_gap inside) rest → SpellsBy rules d t v bytes rest
 
   -- one value or more of one type, up to `]`
-  pub data Elements (d : Declared) : Ty → List Value → List ℕ → List ℕ → Type 0 where
-    last_element : {of : Ty} {v : Value} {bytes rest : List ℕ} (next : List ℕ) → Spells d of v bytes next → past_gap next ≡ codes "]" ++ rest → Elements d of (v ∷ []) bytes rest
-    more_elements : {of : Ty} {v : Value} {vs : List Value} {bytes rest : List ℕ} (next inside : List ℕ) → Spells d of v bytes next → past_gap next ≡ codes "," ++ inside → Elements d of vs (past_gap inside) rest → Elements d of (v ∷ vs) bytes rest
+  pub data ElementsBy (rules : Rules) (d : Declared) : Ty → List Value → List ℕ → List ℕ → Type 0 where
+    last_element : {of : Ty} {v : Value} {bytes rest : List ℕ} (next : List ℕ) → SpellsBy rules d of v bytes next → past_gap next ≡ codes "]" ++ rest → ElementsBy rules d of (v ∷ []) bytes rest
+    more_elements : {of : Ty} {v : Value} {vs : List Value} {bytes rest : List ℕ} (next inside : List ℕ) → SpellsBy rules d of v bytes next → past_gap next ≡ codes "," ++ inside → ElementsBy rules d of vs (past_gap inside) rest → ElementsBy rules d of (v ∷ vs) bytes rest
 
   -- one entry or more in the order of the text, up to `}`
-  pub data Entries (d : Declared) : Ty → Ty → List Pair → List ℕ → List ℕ → Type 0 where
-    last_entry : {key to : Ty} {p : Pair} {bytes rest : List ℕ} (next : List ℕ) → Entry d key to p bytes next → past_gap next ≡ codes "}" ++ rest → Entries d key to (p ∷ []) bytes rest
-    more_entries : {key to : Ty} {p : Pair} {ps : List Pair} {bytes rest : List ℕ} (next inside : List ℕ) → Entry d key to p bytes next → past_gap next ≡ codes "," ++ inside → Entries d key to ps (past_gap inside) rest → Entries d key to (p ∷ ps) bytes rest
+  pub data EntriesBy (rules : Rules) (d : Declared) : Ty → Ty → List Pair → List ℕ → List ℕ → Type 0 where
+    last_entry : {key to : Ty} {p : Pair} {bytes rest : List ℕ} (next : List ℕ) → EntryBy rules d key to p bytes next → past_gap next ≡ codes "}" ++ rest → EntriesBy rules d key to (p ∷ []) bytes rest
+    more_entries : {key to : Ty} {p : Pair} {ps : List Pair} {bytes rest : List ℕ} (next inside : List ℕ) → EntryBy rules d key to p bytes next → past_gap next ≡ codes "," ++ inside → EntriesBy rules d key to ps (past_gap inside) rest → EntriesBy rules d key to (p ∷ ps) bytes rest
 
   -- a key, `:` and a value
-  pub data Entry (d : Declared) : Ty → Ty → Pair → List ℕ → List ℕ → Type 0 where
-    entry : {key to : Ty} {p : Pair} {bytes rest : List ℕ} (k v : Value) (colon start : List ℕ) → p ≡ roll-Pair (record { key = k; value = v }) → Spells d key k bytes colon → past_gap colon ≡ codes ":" ++ start → Spells d to v (past_gap start) rest → Entry d key to p bytes rest
+  pub data EntryBy (rules : Rules) (d : Declared) : Ty → Ty → Pair → List ℕ → List ℕ → Type 0 where
+    entry : {key to : Ty} {p : Pair} {bytes rest : List ℕ} (k v : Value) (colon start : List ℕ) → p ≡ roll-Pair (record { key = k; value = v }) → SpellsBy rules d key k bytes colon → past_gap colon ≡ codes ":" ++ start → SpellsBy rules d to v (past_gap start) rest → EntryBy rules d key to p bytes rest
 
   -- a value for each member, after its name and `=`, up to `)`
-  pub data Members (d : Declared) : List Member → List Value → List ℕ → List ℕ → Type 0 where
-    no_members : {bytes rest : List ℕ} → bytes ≡ codes ")" ++ rest → Members d [] [] bytes rest
-    more_members : {m : Member} {ms : List Member} {v : Value} {vs : List Value} {bytes rest : List ℕ} (equals start next after : List ℕ) → bytes ≡ m.name ++ equals → past_gap equals ≡ codes "=" ++ start → Spells d m.ty v (past_gap start) next → Comma ms (past_gap next) after → Members d ms vs after rest → Members d (m ∷ ms) (v ∷ vs) bytes rest
+  pub data MembersBy (rules : Rules) (d : Declared) : List Member → List Value → List ℕ → List ℕ → Type 0 where
+    no_members : {bytes rest : List ℕ} → bytes ≡ codes ")" ++ rest → MembersBy rules d [] [] bytes rest
+    more_members : {m : Member} {ms : List Member} {v : Value} {vs : List Value} {bytes rest : List ℕ} (equals start next after : List ℕ) → bytes ≡ m.name ++ equals → past_gap equals ≡ codes "=" ++ start → SpellsBy rules d m.ty v (past_gap start) next → Comma ms (past_gap next) after → MembersBy rules d ms vs after rest → MembersBy rules d (m ∷ ms) (v ∷ vs) bytes rest
+
+-- the same by all rules
+abbrev pub Spells : Declared → Ty → Value → List ℕ → List ℕ → Type 0
+Spells d t v bytes rest = SpellsBy ALL d t v bytes rest
+
+abbrev pub Entry : Declared → Ty → Ty → Pair → List ℕ → List ℕ → Type 0
+Entry d key to p bytes rest = EntryBy ALL d key to p bytes rest
+
+-- the text of a value file: a value, after which only spaces and line feeds stand
+abbrev pub IsWhole : Declared → Ty → Value → List ℕ → Type 0
+IsWhole d t v bytes = (rest : List ℕ) × Spells d t v bytes rest × (past_gap rest ≡ [])

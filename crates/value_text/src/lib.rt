@@ -16,5 +16,5 @@ mod value_fault;
 mod values;
 
 pub use printing::print_value;
-pub use reading::{one_value, read_value};
+pub use reading::{one_fault, one_value, read_value, read_whole};
 pub use value_fault::{ValueFault, ValueWhy};

@@ -1,5 +1,6 @@
 use Rattle.std.proofs.Common.{length, sym, ap, ◌∙◌}
 use Rattle.value_text.specs.ValueSteps.{value_at}
+use Rattle.value_text.proofs.Breaking.Verdicts.{told_fault}
 use Rattle.value_text.proofs.Readings.{read_spells, read_fits, read_octets, read_only, stopped, printed_spells, printed_read}
 use Rattle.value_text.proofs.reading.read_value.Goals as goal
 
@@ -23,8 +24,12 @@ returns-in-Err-Bad-clause-only c =
 
 pub returns-in-Ok-clause-back : goal.returns-in-Ok-clause-back
 returns-in-Ok-clause-back c =
-    λ v rest schema fit bytes ends is. printed_read c.args.schema.now c.args.ty.now c.args.text.now v rest schema fit bytes ends is c.in-Ok.value c.saturating_sub.result (returns-in-Ok-clause-only c)
+    λ v rest fit bytes ends is. printed_read c.args.schema.now c.args.ty.now c.args.text.now v rest c.order.ensures.rules fit bytes ends is c.in-Ok.value c.saturating_sub.result (returns-in-Ok-clause-only c)
 
 pub returns-in-Err-Bad-clause-back : goal.returns-in-Err-Bad-clause-back
 returns-in-Err-Bad-clause-back c =
-    λ v rest schema fit bytes ends is. returns-in-Err-Bad-clause-only c v rest (printed_spells c.args.schema.now c.args.ty.now c.args.text.now v rest schema fit bytes ends is)
+    λ v rest fit bytes ends is. returns-in-Err-Bad-clause-only c v rest (printed_spells c.args.schema.now c.args.ty.now c.args.text.now v rest c.order.ensures.rules fit bytes ends is)
+
+pub returns-in-Err-Bad-clause-fault : goal.returns-in-Err-Bad-clause-fault
+returns-in-Err-Bad-clause-fault c =
+    rw (c.place.ensures, c.rest-in-Err-Bad.ensures) (told_fault c.args.schema.now c.args.ty.now c.args.text.now c.order.ensures.rules c.new-cursor.result c.read.new.cursor c.in-Err-Bad.field-0 c.in-Err-Bad.why c.in-Err-Bad.field-0-is c.new-cursor.ensures c.in-Err-Bad.ensures)
