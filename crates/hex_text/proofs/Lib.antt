@@ -1,0 +1,5 @@
+pub mod Parts
+pub mod Readings
+pub mod Prefixes
+pub mod Steps
+pub mod CallerLemmas
