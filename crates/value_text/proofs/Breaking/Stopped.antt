@@ -130,7 +130,7 @@ module _ (left : List ℕ) (why : ValueWhy) (rule : why ≡ Unexpected → ⊥) 
           | stops.before first ↦ record { here = bytes; elements = faults.no_element; stops = first }
           | stops.after v is later ↦
               let turn = went (turn_at 93 v.1) (λ turn. element_then v.0 turn.0 turn.1 (elements_at f count turn.1)) (turn_plain 93 v.1) later in
-          by_turn v.0 v.1 (sound bytes v.0 v.1 is) turn.0.0 turn.0.1 turn.1 (λ b is. elements_break count b is) turn.2
+              by_turn v.0 v.1 (sound bytes v.0 v.1 is) turn.0.0 turn.0.1 turn.1 (λ b is. elements_break count b is) turn.2
         ]
       where
         by_turn : (v : Value) (next : List ℕ) → spelling.Spells d of v bytes next → (last : Bool) (after : List ℕ) → turn_at 93 next ≡ Ok (last, after) → ((b : List ℕ) → elements_at f count b ≡ Err (stop left why) → ElementStop b)
@@ -174,9 +174,9 @@ module _ (left : List ℕ) (why : ValueWhy) (rule : why ≡ Unexpected → ⊥) 
           | stops.before first ↦ record { keys = before; pairs = pairs; here = bytes; entries = faults.no_entry; kept = kept; stops = first }
           | stops.after x is later ↦
               let at = x.0.0 in
-          let p = x.0.1 in
-          let turn = went (turn_at 125 x.1) (λ turn. entries_then turn.0 turn.1 (insert pairs at p) (entries_at f g count (insert pairs at p) turn.1)) (turn_plain 125 x.1) later in
-          by_turn at p x.1 (entry_sound d key to f g sound_key sound_value pairs at p bytes x.1 is) turn.0.0 turn.0.1 turn.1 (λ all keys b kept is. entries_break count all keys b kept is) turn.2
+              let p = x.0.1 in
+              let turn = went (turn_at 125 x.1) (λ turn. entries_then turn.0 turn.1 (insert pairs at p) (entries_at f g count (insert pairs at p) turn.1)) (turn_plain 125 x.1) later in
+              by_turn at p x.1 (entry_sound d key to f g sound_key sound_value pairs at p bytes x.1 is) turn.0.0 turn.0.1 turn.1 (λ all keys b kept is. entries_break count all keys b kept is) turn.2
         ]
       where
         by_turn : (at : ℕ) (p : Pair) (next : List ℕ) → Entered d key to pairs at p bytes next → (last : Bool) (after : List ℕ) → turn_at 125 next ≡ Ok (last, after)
@@ -220,10 +220,10 @@ module _ (left : List ℕ) (why : ValueWhy) (rule : why ≡ Unexpected → ⊥) 
                   let is = taken_is (place_at (key_of (out-Value k)) (map entry_key pairs)) here taken in
                   subst (λ (h : List ℕ). BreaksRule d t bytes h why) is.1 (faults.key_again is.2 faults.itself o key_is (is_among key keys pairs kept (key_of (out-Value k)) (spelled_kind key_is) is.0))
               | stops.after at free later ↦
-              let start = went (sign_at 58 (past_gap colon)) (λ start. g start >>= λ v. read_ok {A = ℕ × Pair} (at, as_entry k v.0) v.1) (sign_plain 58 (past_gap colon)) later in
-              let sign = sign_stands 58 (past_gap colon) start.0 start.1 in
-              let fresh = is_none_of key keys pairs kept (key_of (out-Value k)) at (free_is (place_at (key_of (out-Value k)) (map entry_key pairs)) here at free) in
-              deeper_breaks (faults.value here colon sign.0 o key_is fresh sign.1 (sym sign.2)) (value_breaks start.0 (others_stop (g start.0) (λ (v : Value). placed at k v) left why start.2))
+                  let start = went (sign_at 58 (past_gap colon)) (λ start. g start >>= λ v. read_ok {A = ℕ × Pair} (at, as_entry k v.0) v.1) (sign_plain 58 (past_gap colon)) later in
+                  let sign = sign_stands 58 (past_gap colon) start.0 start.1 in
+                  let fresh = is_none_of key keys pairs kept (key_of (out-Value k)) at (free_is (place_at (key_of (out-Value k)) (map entry_key pairs)) here at free) in
+                  deeper_breaks (faults.value here colon sign.0 o key_is fresh sign.1 (sym sign.2)) (value_breaks start.0 (others_stop (g start.0) (λ (v : Value). placed at k v) left why start.2))
             ]
 
     map_breaks : (t : Ty) → out-Ty t ≡ ty.Map key to → Breaks d key f → Breaks d to g → Breaks d t (map_at f g)
@@ -274,7 +274,7 @@ module _ (left : List ℕ) (why : ValueWhy) (rule : why ≡ Unexpected → ⊥) 
           | stops.before first ↦ record { m = m; others = ms; here = bytes; members = faults.no_member; stops = first }
           | stops.after v is later ↦
               let comma = went (comma_at ms (past_gap v.1)) (λ next. fields_at f ms next >>= λ o. read_ok (v.0 ∷ o.0) o.1) (comma_plain ms (past_gap v.1)) later in
-          later_member m ms v.0 bytes v.1 comma.0 is comma.1 (fields_break ms comma.0 (others_stop (fields_at f ms comma.0) (λ (vs : List Value). v.0 ∷ vs) left why comma.2))
+              later_member m ms v.0 bytes v.1 comma.0 is comma.1 (fields_break ms comma.0 (others_stop (fields_at f ms comma.0) (λ (vs : List Value). v.0 ∷ vs) left why comma.2))
         ]
 
     struct_breaks : (t : Ty) (k : ℕ) → out-Ty t ≡ ty.Struct k → ((t : Ty) → Breaks d t (f t)) → Breaks d t (struct_at f (members_at d k))
