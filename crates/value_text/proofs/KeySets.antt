@@ -1,5 +1,5 @@
 -- Keys that a map has: those of its entries in any order.
-use Rattle.std.proofs.Common.{◌≡◌, ◌⊎◌, inl, inr, ℕ, zero, suc, ℤ, pos, Bool, true, false, cond, Option, Some, None, List, [], ◌∷◌, ◌++◌, take, drop, map, refl, sym, ap, ◌∙◌, subst, arith}
+use Rattle.std.proofs.Common.{◌≡◌, ◌⊎◌, inl, inr, ℕ, zero, suc, ℤ, pos, Bool, true, false, cond, Option, Some, None, List, [], ◌∷◌, ◌++◌, map, refl, sym, ap, ◌∙◌, subst, arith}
 use Rattle.std.proofs.lemmas.Bool.{and_parts}
 use Rattle.std.proofs.lemmas.List.{map-append}
 use Rattle.std.proofs.lemmas.List.Elements.{All-contains, All-from_recursion, Contains-append_left, Contains-append_right, Contains-append_cases}
@@ -12,12 +12,12 @@ use Rattle.tars_model.specs.declared.ty.Ty.TheOpen as ty
 use Rattle.tars_model.specs.declared.value.Pair.{Pair}
 use Rattle.tars_model.specs.declared.value.Value.{Value, out-Value}
 use Rattle.tars_model.specs.declared.value.Value.TheOpen as value
-use Rattle.tars_model.specs.declared.value.Value.TheVariants as values
 use Rattle.tars_model.specs.declared.value.Value.TheVariants.{outs-Bool, outs-Num, outs-Text, outs-Blob, outs-List, outs-Map, outs-Struct}
 use Rattle.value_text.specs.ValueSteps.{place_before, place_at}
 use Rattle.value_text.specs.Spelling.{SpellsBy, ALL}
 use Rattle.value_text.specs.Spelling as spelling
 use Rattle.value_text.proofs.Keys.{Steps, first, second, later, steps, below_trans, below_asym, SameKind, below_total, some}
+use Rattle.value_text.proofs.Signs.{true_is_not_false}
 
 -- ---- a key in a list
 
@@ -41,10 +41,7 @@ none_in_none key h = omega (arith, h.1)
 -- ---- a key with a place is none of the others
 
 apart : (key next : Key) → key_below key next ≡ true → next ≡ key → ⊥
-apart key next below same = both (key_below key key) (ap (key_below key) (sym same) ∙ below) (below_asym key key (ap (key_below key) (sym same) ∙ below))
-  where
-    both : (b : Bool) → b ≡ true → b ≡ false → ⊥
-    both b so not_so = cc
+apart key next below same = let itself = ap (key_below key) (sym same) ∙ below in true_is_not_false (sym itself ∙ below_asym key key itself)
 
 apart_over : (key next : Key) → key_below next key ≡ true → next ≡ key → ⊥
 apart_over key next below same = apart next key below (sym same)
@@ -75,7 +72,7 @@ placed_in key next (first below) = (0, refl)
 placed_in key next (second below) = (0, refl)
 placed_in key next (later n) = (suc n, refl)
 
-pub place_free : (key : Key) (keys : List Key) (at : ℕ) → keys_rise keys ≡ true → place_at key keys ≡ Some at → Contains keys key → ⊥
+place_free : (key : Key) (keys : List Key) (at : ℕ) → keys_rise keys ≡ true → place_at key keys ≡ Some at → Contains keys key → ⊥
 unfolding place_at
 place_free key [] at rise e has = none_in_none key has
 place_free key (next ∷ keys) at rise e has =
@@ -105,7 +102,7 @@ taken_step key next keys (Some zero) kind deeper e = by_first (key_below key nex
     by_first true is e = absurd cc
     by_first false is e = by_second (key_below next key) is refl e
 
-pub place_taken : (key : Key) (keys : List Key) → AllByRecursion (SameKind key) keys → place_at key keys ≡ None → Contains keys key
+place_taken : (key : Key) (keys : List Key) → AllByRecursion (SameKind key) keys → place_at key keys ≡ None → Contains keys key
 unfolding place_at
 place_taken key [] kinds e = absurd cc
 place_taken key (next ∷ keys) kinds e = taken_step key next keys (place_at key keys) kinds.0 (λ none. place_taken key keys kinds.1 none) e
@@ -113,7 +110,7 @@ place_taken key (next ∷ keys) kinds e = taken_step key next keys (place_at key
 -- ---- keys of one type
 
 -- a key of a type; all of them are of its kind
-abbrev pub example_key : TyLayer → Key
+abbrev example_key : TyLayer → Key
 example_key ty.Text = a_text []
 example_key ty.Bool = no_key
 example_key (ty.Vector of) = no_key
@@ -169,8 +166,8 @@ as_each example key (next ∷ keys) kind kinds = (as_one example key next kind k
 pub record Kept (t : Ty) (keys : List Key) (pairs : List Pair) : Type 0 where
   pub rise : keys_rise (map entry_key pairs) ≡ true
   pub kinds : AllByRecursion (OfKind t) (map entry_key pairs)
-  pub into : (key : Key) → Contains keys key → Contains (map entry_key pairs) key
-  pub back : (key : Key) → Contains (map entry_key pairs) key → Contains keys key
+  into : (key : Key) → Contains keys key → Contains (map entry_key pairs) key
+  back : (key : Key) → Contains (map entry_key pairs) key → Contains keys key
 
 pub none_kept : (t : Ty) → Kept t [] []
 none_kept t = record { rise = refl; kinds = tt; into = λ key h. h; back = λ key h. h }

@@ -71,7 +71,7 @@ pub elements_open : {rules : Rules} {d : Declared} {of : Ty} {vs : List Value} {
 elements_open (spelling.last_element next is closes) = value_opens is
 elements_open (spelling.more_elements next inside is comma others) = value_opens is
 
-entry_opens : {rules : Rules} {d : Declared} {key to : Ty} {p : Pair} {bytes rest : List ℕ} → EntryBy rules d key to p bytes rest → begins is_closing bytes ≡ false
+pub entry_opens : {rules : Rules} {d : Declared} {key to : Ty} {p : Pair} {bytes rest : List ℕ} → EntryBy rules d key to p bytes rest → begins is_closing bytes ≡ false
 entry_opens (spelling.entry k v colon start p_is key_is sign value_is) = value_opens key_is
 
 pub entries_open : {rules : Rules} {d : Declared} {key to : Ty} {ps : List Pair} {bytes rest : List ℕ} → EntriesBy rules d key to ps bytes rest → begins is_closing bytes ≡ false

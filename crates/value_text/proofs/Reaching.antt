@@ -1,4 +1,4 @@
--- Where reading comes to is the end of the bytes.
+-- Where a value inside another starts, fewer bytes are left.
 use Rattle.std.proofs.Common.{◌≡◌, ◌≤◌, ◌<◌, ℕ, List, ◌∷◌, length, length-append, sym, subst, arith}
 use Rattle.tars_model.specs.Declarations.{Declared}
 use Rattle.tars_model.specs.Values.{Key}
@@ -8,7 +8,7 @@ use Rattle.value_text.specs.Faults.{AfterElements, AfterEntries, AfterMembers, O
 use Rattle.value_text.specs.Faults as faults
 use Rattle.value_text.specs.Spelling.{past_gap}
 use Rattle.value_text.proofs.Signs.{past_gap_shorter}
-use Rattle.value_text.proofs.Suffixes.{EndsWith, whole, after, further, past_gap_ends, sign_ends, gap_ends, value_ends, entry_ends}
+use Rattle.value_text.proofs.Suffixes.{EndsWith, whole, after, further, past_gap_ends, gap_ends, value_ends, entry_ends}
 
 -- what follows a comma
 comma_leads : (next inside : List ℕ) → past_gap next ≡ 44 ∷ inside → EndsWith next (past_gap inside)
@@ -27,7 +27,7 @@ members_lead {bytes = bytes} faults.no_member = whole bytes
 members_lead {bytes = bytes} (faults.one_member {m = m} equals start next inside name sign is comma others) =
     further (after m.name bytes equals name) (further (gap_ends 61 equals start sign) (further (past_gap_ends start) (further (value_ends is) (further (comma_leads next inside comma) (members_lead others)))))
 
-pub ends_within : {bytes rest : List ℕ} → EndsWith bytes rest → length rest ≤ length bytes
+ends_within : {bytes rest : List ℕ} → EndsWith bytes rest → length rest ≤ length bytes
 ends_within {bytes = bytes} {rest = rest} e = let len = length-append e.front rest in rw e.is (omega arith)
 
 -- a sign, and after it and its gap what ends with the rest
@@ -53,16 +53,9 @@ opens_inside (faults.member {m = m} number inside start equals next is text memb
   ends = subst (EndsWith (past_gap inside)) (sym here_is) (further (members_lead members) (further (after m.name start equals name) (further (gap_ends 61 equals next sign) (past_gap_ends next))));
 }
 
-pub opens_ends : {d : Declared} {t u : Ty} {bytes here : List ℕ} → Opens d t bytes u here → EndsWith bytes here
-opens_ends {bytes = bytes} opens = let o = opens_inside opens in further (sign_ends o.sign bytes o.inside o.is) o.ends
-
 pub opens_shorter : {d : Declared} {t u : Ty} {bytes here : List ℕ} → Opens d t bytes u here → length here < length bytes
 opens_shorter opens =
     let o = opens_inside opens in
     let gap = past_gap_shorter o.inside in
     let less = ends_within o.ends in
     rw o.is (omega arith)
-
-pub reaches_ends : {d : Declared} {t u : Ty} {text here : List ℕ} → Reaches d t text u here → EndsWith text here
-reaches_ends {text = text} faults.itself = whole text
-reaches_ends (faults.deeper opens more) = further (opens_ends opens) (reaches_ends more)

@@ -47,10 +47,10 @@ pub fn read_value(
     // What is printed for a value is read back, where no letter, digit or `_` follows.
     ensures back { (v : Made) (rest : Listed ℕ) → fits schema.now ty.now v ≡ true → has_bytes v ≡ true
         → IsEnd rest → text.now ≡ printed schema.now ty.now v ++ rest → GivesValue result v (length (printed schema.now ty.now v)) }
-    // What is told of a fault is its place and reason.
+    // A fault that is returned is the text's, at its place and for its reason.
     ensures fault { IfBad result (λ at why. FaultOf schema.now ty.now text.now at why) }
 {
-    // It tells the proof that the schema keeps its rules.
+    // By its rules a schema has a text for every type.
     let _ = schema.order();
     let mut cursor = Cursor::new(text);
     match read(alloc, text.len(), schema, ty, &mut cursor) {
@@ -73,9 +73,9 @@ pub fn read_whole(alloc: Global, schema: &Schema, ty: &Ty, text: &[u8]) -> Resul
     ensures bytes { IfOk result (λ v. has_bytes v ≡ true) }
     // Whatever a text says is read, unless memory runs out.
     ensures only { (v : Made) → IsWhole schema.now ty.now v text.now → GivesWhole result v }
-    // What is told of a fault is its place and reason.
+    // A fault that is returned is the text's, at its place and for its reason.
     ensures fault { IfBad result (λ at why. WholeFaultOf schema.now ty.now text.now at why) }
-    // A fault is told, unless memory runs out.
+    // The fault of a text is returned, unless memory runs out.
     ensures refused { (at : ℕ) (why : Why) → WholeFaultOf schema.now ty.now text.now at why → GivesFault result at why }
 {
     let (value, taken) = read_value(alloc, schema, ty, text)?;

@@ -1,5 +1,5 @@
 -- What keeps no rule stops at a byte that does not continue it, and for no other reason.
-use Rattle.std.proofs.Common.{◌≡◌, ℕ, zero, suc, ◌+◌, ◌==◌, Bool, true, false, ◌&&◌, ◌||◌, nat_le, cond, Option, Some, None, ℤ, List, [], ◌∷◌, length, take, drop, Result, Ok, Err, refl, subst}
+use Rattle.std.proofs.Common.{◌≡◌, ℕ, zero, suc, ◌+◌, ◌==◌, Bool, true, false, ◌&&◌, ◌||◌, nat_le, cond, Option, Some, None, ℤ, List, [], ◌∷◌, length, take, Result, Ok, Err, refl, subst}
 use Rattle.std.specs.Char.{is_digit, digit_value}
 use Rattle.canonical_text.specs.Canonical.{truth_word}
 use Rattle.facts.specs.ResultSteps.{◌>>=◌}
@@ -7,7 +7,7 @@ use Rattle.idl_parse.specs.Bytes.{begins}
 use Rattle.tars_model.specs.declared.enum_desc.Item.{Item}
 use Rattle.tars_model.specs.declared.member.Member.{Member}
 use Rattle.tars_model.specs.declared.value.Value.TheVariants as values
-use Rattle.value_text.specs.ReadSteps.{Stop, unexpected, byte_at, sign_at, word_at, turn_after, turn_at, truth_at, body_of, digits_of, word_of, number_word_at, word_len, named, name_at, digit_at, pair_at, escape_at, text_unit_at, blob_unit_at, unit_at, unit_then, units_at, text_at, blob_at}
+use Rattle.value_text.specs.ReadSteps.{Stop, unexpected, byte_at, sign_at, word_at, turn_after, turn_at, truth_at, body_of, digits_of, number_word_at, word_len, named, name_at, digit_at, pair_at, escape_at, text_unit_at, blob_unit_at, unit_at, unit_then, units_at, text_at, blob_at}
 use Rattle.value_text.specs.ValueSteps.{comma_at}
 use Rattle.value_text.specs.Spelling.{past_gap, number_named}
 use Rattle.value_text.specs.declared.cursor.Form.{Form}

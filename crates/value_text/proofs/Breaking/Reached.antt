@@ -1,11 +1,11 @@
 -- Where a rule is broken, reading stops.
-use Rattle.std.proofs.Common.{◌≡◌, ◌≤◌, ◌<◌, ◌⊎◌, inl, inr, ℕ, zero, suc, ℤ, Bool, true, false, ◌==◌, List, [], ◌∷◌, ◌++◌, length, take, drop, map, Some, None, Ok, Err, refl, sym, ap, ◌∙◌, subst, arith, length-append}
+use Rattle.std.proofs.Common.{◌≡◌, ◌≤◌, ◌<◌, ℕ, zero, suc, ℤ, Bool, true, false, ◌==◌, List, [], ◌∷◌, ◌++◌, length, take, drop, map, Some, None, Ok, Err, refl, sym, ap, ◌∙◌, subst, arith, length-append}
 use Rattle.std.proofs.lemmas.List.{take-append-drop}
 use Rattle.std.specs.List.{Contains, insert}
 use Rattle.idl_parse.specs.Bytes.{begins}
 use Rattle.tars_model.specs.Declarations.{Declared, members_at}
 use Rattle.tars_model.specs.Types.{TyLayer}
-use Rattle.tars_model.specs.Values.{Key, key_of, keys_rise, entry_key, is_number_of, is_signed}
+use Rattle.tars_model.specs.Values.{Key, key_of, entry_key, is_number_of, is_signed}
 use Rattle.tars_model.specs.declared.member.Member.{Member}
 use Rattle.tars_model.specs.declared.ty.Ty.{Ty, out-Ty}
 use Rattle.tars_model.specs.declared.ty.Ty.TheOpen as ty
@@ -14,7 +14,7 @@ use Rattle.tars_model.specs.declared.value.Value.{Value, out-Value}
 use Rattle.tars_model.specs.declared.value.Value.TheVariants as values
 use Rattle.value_text.specs.Faults.{AfterElements, AfterEntries, AfterMembers, OpensKey, Opens, Reaches, BreaksRule}
 use Rattle.value_text.specs.Faults as faults
-use Rattle.value_text.specs.ReadSteps.{Read, Stop, out_of_range, said_at, number_at}
+use Rattle.value_text.specs.ReadSteps.{Read, Stop, out_of_range, number_at}
 use Rattle.value_text.specs.ValueSteps.{place_at, elements_at, list_at, entry_at, entries_at, map_at, field_at, fields_at, struct_at, value_by, value_at}
 use Rattle.value_text.specs.Spelling.{past_gap, has_numbers, SaysNumber, Spells, Entry, FORM, SpellsBy}
 use Rattle.value_text.specs.Spelling as spelling
@@ -25,7 +25,7 @@ use Rattle.value_text.proofs.Keys.{insert_between, place_fits}
 use Rattle.value_text.proofs.KeySets.{Kept, OfKind, none_kept, kept_more, spelled_kind, no_place_left, place_open}
 use Rattle.value_text.proofs.MapSound.{made_key}
 use Rattle.value_text.proofs.NumberReads.{wide_is_out}
-use Rattle.value_text.proofs.Opening.{is_closing, value_opens, no_bracket, no_brace, digits_said, name_said, said_is_read, reads_numbers}
+use Rattle.value_text.proofs.Opening.{is_closing, value_opens, entry_opens, no_bracket, no_brace, digits_said, name_said, said_is_read, reads_numbers}
 use Rattle.value_text.proofs.Reaching.{opens_shorter}
 use Rattle.value_text.proofs.Signs.{sign_is_read, word_is_read, comma_is_read, past_gap_shorter}
 use Rattle.value_text.proofs.Sizes.{value_shorter, entry_shorter}
@@ -102,12 +102,9 @@ elements_clear : {d : Declared} {of : Ty} {bytes here : List ℕ} → AfterEleme
 elements_clear faults.no_element clear = clear
 elements_clear (faults.one_element next inside is comma others) clear = value_opens is
 
-entry_clear : {d : Declared} {key to : Ty} {p : Pair} {bytes rest : List ℕ} → Entry d key to p bytes rest → Clear bytes
-entry_clear (spelling.entry k v colon start p_is key_is sign value_is) = value_opens key_is
-
 entries_clear : {d : Declared} {key to : Ty} {before keys : List Key} {bytes here : List ℕ} → AfterEntries d key to before bytes keys here → Clear here → Clear bytes
 entries_clear faults.no_entry clear = clear
-entries_clear (faults.one_entry next inside is fresh comma others) clear = entry_clear is
+entries_clear (faults.one_entry next inside is fresh comma others) clear = entry_opens is
 
 pub entry_kind : {d : Declared} {key to : Ty} {p : Pair} {bytes rest : List ℕ} → Entry d key to p bytes rest → OfKind key (entry_key p)
 entry_kind {key = key} {p = p} (spelling.entry k v colon start p_is key_is sign value_is) = subst (OfKind key) (sym (ap entry_key p_is ∙ made_key k v)) (spelled_kind key_is)

@@ -1,8 +1,8 @@
 -- Where reading stops for a rule, that rule is broken.
-use Rattle.std.proofs.Common.{◌≡◌, ◌⊎◌, inl, inr, ℕ, zero, suc, ℤ, Bool, true, false, ◌==◌, cond, Option, Some, None, List, [], ◌∷◌, ◌++◌, length, take, drop, map, Result, Ok, Err, refl, sym, ap, ◌∙◌, subst}
+use Rattle.std.proofs.Common.{◌≡◌, ℕ, zero, suc, ℤ, Bool, true, false, ◌==◌, cond, Option, Some, None, List, [], ◌∷◌, ◌++◌, length, take, drop, map, Result, Ok, Err, refl, sym, ap, ◌∙◌, subst}
 use Rattle.std.proofs.lemmas.List.{take-append-drop}
 use Rattle.std.specs.Char.{is_ascii_alphabetic}
-use Rattle.std.specs.List.{Contains, insert}
+use Rattle.std.specs.List.{insert}
 use Rattle.facts.specs.ResultSteps.{◌>>=◌}
 use Rattle.idl_parse.specs.Bytes.{begins}
 use Rattle.idl_parse.specs.Forms.{is_in_range}
@@ -18,7 +18,7 @@ use Rattle.tars_model.specs.declared.value.Value.{Value, out-Value}
 use Rattle.tars_model.specs.declared.value.Value.TheVariants as values
 use Rattle.value_text.specs.Faults.{AfterElements, AfterEntries, AfterMembers, OpensKey, Opens, BreaksRule}
 use Rattle.value_text.specs.Faults as faults
-use Rattle.value_text.specs.ReadSteps.{Read, Stop, unexpected, out_of_range, byte_at, sign_at, word_at, turn_at, number_word_at, integer_at, name_at, said_at, number_at, blob_at}
+use Rattle.value_text.specs.ReadSteps.{Read, Stop, out_of_range, sign_at, word_at, turn_at, number_word_at, integer_at, name_at, said_at, number_at, blob_at}
 use Rattle.value_text.specs.ValueSteps.{place_at, as_entry, free_place, element_then, elements_at, list_inside, list_at, entry_at, entries_then, entries_at, map_inside, map_at, field_at, comma_at, fields_at, struct_at, vector_at, value_by, value_at}
 use Rattle.value_text.specs.Spelling.{past_gap, has_numbers, NumberSpells, SaysNumber, Comma}
 use Rattle.value_text.specs.Spelling as spelling
@@ -26,11 +26,11 @@ use Rattle.value_text.specs.declared.value_fault.ValueWhy.{ValueWhy}
 use Rattle.value_text.specs.declared.value_fault.ValueWhy.TheVariants.{Unexpected, Range, TwiceKey}
 use Rattle.value_text.proofs.Breaking.NoRules.{Plain, plain_stop, last_byte_plain, sign_plain, word_plain, comma_plain, turn_plain, truth_plain, number_word_plain, name_plain, text_plain, blob_plain}
 use Rattle.value_text.proofs.Breaking.Reached.{entry_kind, some_member}
-use Rattle.value_text.proofs.Keys.{Fitting, place_fits, insert_is}
+use Rattle.value_text.proofs.Keys.{place_fits, insert_is}
 use Rattle.value_text.proofs.KeySets.{Kept, none_kept, kept_more, spelled_kind, is_among, is_none_of}
 use Rattle.value_text.proofs.MapSound.{Entered, entry_sound, free_is, value_sound}
 use Rattle.value_text.proofs.NumberLaws.{Says, word_says}
-use Rattle.value_text.proofs.Signs.{read_ok, sign_stands, word_stands, turn_stands}
+use Rattle.value_text.proofs.Signs.{read_ok, true_is_not_false, sign_stands, word_stands, turn_stands}
 use Rattle.value_text.proofs.Sizes.{long_number}
 use Rattle.value_text.proofs.Sound.{Sound, said_sound, comma_stands, field_sound}
 use Rattle.value_text.proofs.Stopping.Signs.{stop, stops_so, step_stops, others_stop}
@@ -61,11 +61,8 @@ module _ (left : List ℕ) (why : ValueWhy) (rule : why ≡ Unexpected → ⊥) 
   too_wide : (l : TyLayer) (n : ℤ) → is_signed 63 n ≡ false → is_number_of l n ≡ false
   too_wide l n wide = by_test (is_number_of l n) refl
     where
-      both : (b : Bool) → b ≡ true → b ≡ false → ⊥
-      both b so not_so = cc
-
       by_test : (b : Bool) → is_number_of l n ≡ b → is_number_of l n ≡ false
-      by_test true fits = absurd (both (is_signed 63 n) (long_number l n fits) wide)
+      by_test true fits = absurd (true_is_not_false (sym (long_number l n fits) ∙ wide))
       by_test false out = out
 
   integer_out : (d : Declared) (l : TyLayer) (bytes : List ℕ) → integer_at bytes ≡ Err (stop left why) → NumberOut d l bytes

@@ -1,5 +1,5 @@
 -- A text begins with a value, or has one fault.
-use Rattle.std.proofs.Common.{◌≡◌, ◌-◌, ◌<◌, ◌⊎◌, inl, inr, ℕ, List, [], length, Ok, Err, refl, sym, ap, ◌∙◌, subst, arith}
+use Rattle.std.proofs.Common.{◌≡◌, ◌-◌, ◌⊎◌, inl, inr, ℕ, List, length, Ok, Err, refl, sym, ap, ◌∙◌, subst, arith}
 use Rattle.longest_prefix.proofs.Verdicts.{one_offset}
 use Rattle.tars_model.specs.Declarations.{Declared}
 use Rattle.tars_model.specs.Schemas.{IsSchema}
@@ -48,7 +48,7 @@ module _ (d : Declared) (t : Ty) (text : List ℕ) where
   -- ---- what is read
 
   module _ (schema : IsSchema d) where
-    pub stop_fault : (left : List ℕ) (why : ValueWhy) → value_at (length text) d t text ≡ Err (stop left why) → FaultOf d t text (length text - length left) why
+    stop_fault : (left : List ℕ) (why : ValueWhy) → value_at (length text) d t text ≡ Err (stop left why) → FaultOf d t text (length text - length left) why
     stop_fault left Range e = faults.rule left (stop_breaks left Range (λ is. absurd cc) (length text) d t text e) refl
     stop_fault left TwiceKey e = faults.rule left (stop_breaks left TwiceKey (λ is. absurd cc) (length text) d t text e) refl
     stop_fault left Unexpected e =
