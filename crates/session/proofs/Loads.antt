@@ -2,9 +2,7 @@
 pub mod Loaded
 pub mod Loading
 pub mod OneAnswer
-pub mod OneSchema
 pub mod OneScript
 pub mod OneSession
-pub mod Seen
 pub mod Sessions
 pub mod Targets

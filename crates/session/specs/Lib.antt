@@ -1,5 +1,4 @@
-pub mod Refusals
-pub mod SchemaLoading
+pub mod ScriptFaults
 pub mod Agreement
 pub mod Bodies
 pub mod RpcPackets
@@ -10,5 +9,4 @@ pub mod Legal
 pub mod Loading
 pub mod TrackSteps
 pub mod LoadAnswers
-pub mod LoadSteps
 pub mod SessionSteps

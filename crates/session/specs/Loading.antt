@@ -1,14 +1,17 @@
 -- What loading a script gives (docs/SCRIPTS.md, "Loading").
-use Rattle.std.specs.Prelude.{◌≡◌, ℕ, ◌+◌, ◌<◌, ◌≤◌, length, true, false, if◌then◌else◌, Some, None, List, [], ◌∷◌}
+use Rattle.std.specs.Prelude.{◌≡◌, ℕ, ◌+◌, true, false, if◌then◌else◌, None, List, [], ◌∷◌}
 use Rattle.std.specs.Str.{bytes_eq}
 use Rattle.std.specs.Str.Parse.{digits_value}
+use Rattle.schema_files.specs.FileReading.{ReadsFile}
+use Rattle.schema_files.specs.FileReading as file
+use Rattle.schema_files.specs.Refusals.{refusal_line}
+use Rattle.schema_files.specs.SchemaLoading.{LoadsSchema}
+use Rattle.schema_files.specs.SchemaLoading as schema
 use Rattle.script_text.specs.ScriptText.{ScriptText, IsScriptText, EventText, call, serve, work, deliver, close, object_id}
 use Rattle.script_text.specs.Words.{number_of}
 use Rattle.session.specs.Agreement.{Target, Agree}
-use Rattle.session.specs.Refusals.{refusal_line, script_fault}
-use Rattle.session.specs.SchemaLoading.{LoadsSchema}
-use Rattle.session.specs.SchemaLoading as schema
-use Rattle.session.specs.declared.refused_text.ScriptFault.TheVariants.{TooLong, Form, Value as BadValue}
+use Rattle.session.specs.ScriptFaults.{script_fault}
+use Rattle.session.specs.declared.script_fault.ScriptFault.TheVariants.{Form, Value as BadValue}
 use Rattle.session_model.specs.Sessions.{NODE}
 use Rattle.session_model.specs.declared.loaded.CallSpec.{CallSpec}
 use Rattle.session_model.specs.declared.loaded.Event.{Event}
@@ -16,7 +19,6 @@ use Rattle.session_model.specs.declared.loaded.Event.TheVariants.{Call, Serve, W
 use Rattle.session_model.specs.declared.loaded.Loaded.{Loaded}
 use Rattle.session_model.specs.declared.loaded.Rule.TheVariants.{Add}
 use Rattle.tars_base.specs.Contents.{Held}
-use Rattle.tars_base.specs.Limits.{MAX_FILE}
 use Rattle.tars_model.specs.Declarations.{Declared}
 use Rattle.tars_model.specs.declared.value.Value.{Value, Num}
 
@@ -71,27 +73,24 @@ pub data LoadAnswer : Type 0 where
 -- includes before names and values. Files may change in between: the script is read of what they hold first, the
 -- interface file of what they hold then.
 pub data Loads (held : Held) (script : List ℕ) : LoadAnswer → Type 0 where
-  no_script : held 0 script ≡ None → Loads held script (unread script)
-  long_script :
-      (text : List ℕ) → held 0 script ≡ Some text → MAX_FILE < length text
-      → Loads held script (refused (refusal_line script (script_fault TooLong)))
+  no_script : (name : List ℕ) → ReadsFile (held 0) script (file.unread name) → Loads held script (unread name)
+  long_script : (line : List ℕ) → ReadsFile (held 0) script (file.refused line) → Loads held script (refused line)
   bad_script :
-      (text : List ℕ) → held 0 script ≡ Some text → length text ≤ MAX_FILE
-      → ((s : ScriptText) → IsScriptText s text → ⊥)
+      (text : List ℕ) → ReadsFile (held 0) script (file.whole text) → ((s : ScriptText) → IsScriptText s text → ⊥)
       → Loads held script (refused (refusal_line script (script_fault Form)))
   no_interface :
-      (text file : List ℕ) (s : ScriptText) → held 0 script ≡ Some text → IsScriptText s text
-      → LoadsSchema (held 1) s.client (schema.unread file) → Loads held script (unread file)
+      (text name : List ℕ) (s : ScriptText) → ReadsFile (held 0) script (file.whole text) → IsScriptText s text
+      → LoadsSchema (held 1) s.client (schema.unread name) → Loads held script (unread name)
   bad_interface :
-      (text line : List ℕ) (s : ScriptText) → held 0 script ≡ Some text → IsScriptText s text
+      (text line : List ℕ) (s : ScriptText) → ReadsFile (held 0) script (file.whole text) → IsScriptText s text
       → LoadsSchema (held 1) s.client (schema.refused line) → Loads held script (refused line)
   bad_value :
-      (text : List ℕ) (s : ScriptText) (d : Declared) → held 0 script ≡ Some text → IsScriptText s text
+      (text : List ℕ) (s : ScriptText) (d : Declared) → ReadsFile (held 0) script (file.whole text) → IsScriptText s text
       → LoadsSchema (held 1) s.client (schema.declared d) → ((t : Target) → Agree s d t → ⊥)
       → Loads held script (refused (refusal_line script (script_fault BadValue)))
   session :
-      (text : List ℕ) (s : ScriptText) (d : Declared) (t : Target) → held 0 script ≡ Some text → IsScriptText s text
-      → LoadsSchema (held 1) s.client (schema.declared d) → Agree s d t
+      (text : List ℕ) (s : ScriptText) (d : Declared) (t : Target) → ReadsFile (held 0) script (file.whole text)
+      → IsScriptText s text → LoadsSchema (held 1) s.client (schema.declared d) → Agree s d t
       → Loads held script (loaded (loaded_of s d t))
 
 -- a session that was loaded from a script that agrees with a schema

@@ -1,20 +1,20 @@
 //! Loading: a script and its interface file are read and judged (docs/SCRIPTS.md, "Loading").
 
-ghost use Rattle.std.specs.Prelude.{◌≡◌, ◌≤◌, ◌+◌, length};
+ghost use Rattle.std.specs.Prelude.{◌≡◌};
+ghost use Rattle.schema_files.specs.LoadAnswers.{IsRefusedBy};
+ghost use Rattle.schema_files.specs.Refusals.{refusal_line};
 ghost use Rattle.session.specs.LoadAnswers.{IsAnswered};
-ghost use Rattle.session.specs.LoadSteps.{IsRefusedBy};
-ghost use Rattle.session.specs.Refusals.{refusal_line, script_fault};
+ghost use Rattle.session.specs.ScriptFaults.{script_fault};
 ghost use Rattle.tars_base.specs.Causes.{HasCauseOf};
-ghost use Rattle.tars_base.specs.Contents.{Held, IsHeld, IsPrefixOfFile};
-ghost use Rattle.tars_base.specs.Limits.{MAX_FILE as longest};
+ghost use Rattle.tars_base.specs.Contents.{Held, IsHeld};
 
-use crate::refused_text::{ScriptFault, TextFault};
-use crate::schema_loading::{load_schema, refused};
-use crate::{LoadFault, Loaded, Mode};
+use crate::script_fault::ScriptFault;
+use crate::{Loaded, Mode};
+use schema_files::{LoadFault, TextFault, load_schema, read_file, refused};
 use script_text::read_script;
 use session::session_of;
 use std::alloc::Global;
-use tars_base::{Files, MAX_FILE};
+use tars_base::Files;
 
 mod events;
 mod session;
@@ -27,23 +27,14 @@ fn refused_script(alloc: Global, name: &str, fault: ScriptFault) -> LoadFault
     refused(alloc, name.as_bytes(), TextFault::from(fault))
 }
 
-/// The session that a script's text says, which was read so far that a text that is too long shows.
-fn load_text<F: Files>(
-    alloc: Global,
-    files: &mut F,
-    name: &str,
-    text: &[u8],
-) -> Result<Loaded, LoadFault>
-    requires read { IsPrefixOfFile (F.contents files.old) name.now (longest + 1) text.now }
-    requires within { length text.now ≤ longest + 1 }
+/// The session of a script that is run at once.
+fn load_plan<F: Files>(alloc: Global, files: &mut F, name: &str) -> Result<Loaded, LoadFault>
     ensures exact { (held : Held) × IsHeld (F.contents files.old) held × IsAnswered held name.now result }
     ensures same { F.contents files.new ≡ F.contents files.old }
     ensures cause { HasCauseOf LoadFault.Read (F.faults files.old) (F.faults files.new) result }
 {
-    if text.len() > MAX_FILE {
-        return Err(refused_script(alloc, name, ScriptFault::TooLong));
-    }
-    let Some(script) = read_script(alloc, text)? else {
+    let text = read_file(alloc, files, name)?;
+    let Some(script) = read_script(alloc, &text)? else {
         return Err(refused_script(alloc, name, ScriptFault::Form));
     };
     let schema = load_schema(alloc, files, script.client)?;
@@ -51,16 +42,6 @@ fn load_text<F: Files>(
         Some(loaded) => Ok(loaded),
         None => Err(refused_script(alloc, name, ScriptFault::Value)),
     }
-}
-
-/// The session of a script that is run at once.
-fn load_plan<F: Files>(alloc: Global, files: &mut F, name: &str) -> Result<Loaded, LoadFault>
-    ensures exact { (held : Held) × IsHeld (F.contents files.old) held × IsAnswered held name.now result }
-    ensures same { F.contents files.new ≡ F.contents files.old }
-    ensures cause { HasCauseOf LoadFault.Read (F.faults files.old) (F.faults files.new) result }
-{
-    let text = files.read(alloc, name, MAX_FILE + 1)?;
-    load_text(alloc, files, name, &text)
 }
 
 /// The session of the script under this name. A file that is longer than it may be is read only so far that this shows.

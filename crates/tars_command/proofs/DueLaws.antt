@@ -4,15 +4,15 @@ use Rattle.std.specs.Prelude.{Result, Ok, Err, IsErr, IsErrAnd}
 use Rattle.std.specs.declared.vec.Vec.{Vec}
 use Rattle.canonical_text.specs.Canonical.{canonical}
 use Rattle.report_lines.specs.ReportText.{report_text_of}
-use Rattle.session.specs.LoadAnswers.{IsSchemaAnswered, IsAnswered}
+use Rattle.schema_files.specs.SchemaLoading as schema
+use Rattle.schema_files.specs.SchemaLoading.{SchemaAnswer, LoadsSchema}
+use Rattle.schema_files.specs.declared.load_fault.LoadFault.{LoadFault}
+use Rattle.schema_files.specs.declared.load_fault.LoadFault.TheVariants as faults
+use Rattle.schema_files.proofs.CallerLemmas.{ForSchema, always, any_held}
 use Rattle.session.specs.Loading as load
 use Rattle.session.specs.Loading.{LoadAnswer, Loads, IsLoaded}
 use Rattle.session.specs.Planned.{planned}
-use Rattle.session.specs.SchemaLoading as schema
-use Rattle.session.specs.SchemaLoading.{SchemaAnswer, LoadsSchema}
-use Rattle.session.specs.declared.load_fault.LoadFault.{LoadFault}
-use Rattle.session.specs.declared.load_fault.LoadFault.TheVariants as faults
-use Rattle.session.proofs.CallerLemmas.{any_held, loads_loaded}
+use Rattle.session.proofs.CallerLemmas.{ForScript, loads_loaded}
 use Rattle.session_model.specs.declared.loaded.Loaded.{Loaded}
 use Rattle.tars_base.specs.Contents.{Contents, Held, AreTold, IsHeld, HoldsOnly}
 use Rattle.tars_command.specs.Due.{DueAnswer, refused, unread, done, Due, no_form, check_unread, check_refused, check_done, plan_unread, plan_refused, plan_done}
@@ -88,16 +88,6 @@ plan_due held words script answer ask one = record { holds = plan_given held wor
 
 abbrev pub ForDue : {A : Type 0} → Option Contents → List (List ℕ) → Result (Vec ℕ A) LoadFault → Type 0
 ForDue told words result = (held : Held) × IsHeld told held × IsDueAnswered held words result
-
-abbrev pub ForSchema : Option Contents → List ℕ → Result Declared LoadFault → Type 0
-ForSchema told file result = (seen : Contents) × AreTold told seen × IsSchemaAnswered seen file result
-
-abbrev pub ForScript : Option Contents → List ℕ → Result Loaded LoadFault → Type 0
-ForScript told script result = (held : Held) × IsHeld told held × IsAnswered held script result
-
--- the files hold this all the time
-abbrev always : Contents → Held
-always contents step = contents
 
 module _ (A : Type 0) (told : Option Contents) (words : List (List ℕ)) where
   abbrev Returned : Result (Vec ℕ A) LoadFault → Type 0

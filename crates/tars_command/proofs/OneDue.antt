@@ -1,6 +1,7 @@
 -- Whatever the words are and the files hold, one answer is due, and no other.
 use Rattle.std.proofs.Common.{◌≡◌, inl, inr, ℕ, List, refl}
-use Rattle.session.proofs.CallerLemmas.{one_answer, one_schema}
+use Rattle.schema_files.proofs.CallerLemmas.{one_schema}
+use Rattle.session.proofs.CallerLemmas.{one_answer}
 use Rattle.tars_base.specs.Contents.{Held, HoldsOnly}
 use Rattle.tars_command.specs.Due.{DueAnswer, usage, Due, no_form, check_unread, check_refused, check_done, plan_unread, plan_refused, plan_done}
 use Rattle.tars_command.specs.WordSteps.{check, plan}

@@ -2,7 +2,7 @@
 use Rattle.std.proofs.Common.{◌≡◌, ◌≢◌, ℕ, inl, inr, List, Option, refl, sym, subst}
 use Rattle.std.specs.Prelude.{Ok}
 use Rattle.std.specs.declared.vec.Vec.{Vec}
-use Rattle.session.proofs.CallerLemmas.{any_held}
+use Rattle.schema_files.proofs.CallerLemmas.{any_held}
 use Rattle.tars_base.specs.Contents.{Contents, Held, IsHeld, HoldsOnly}
 use Rattle.tars_base.specs.declared.status.Status.{Status}
 use Rattle.tars_base.specs.declared.status.Status.TheVariants.{Done, Refused, Usage, ReadFault, WriteFault, Memory}

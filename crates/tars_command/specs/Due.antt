@@ -2,11 +2,11 @@
 use Rattle.std.specs.Prelude.{ℕ, List}
 use Rattle.canonical_text.specs.Canonical.{canonical}
 use Rattle.report_lines.specs.ReportText.{report_text_of}
+use Rattle.schema_files.specs.SchemaLoading as schema
+use Rattle.schema_files.specs.SchemaLoading.{LoadsSchema}
 use Rattle.session.specs.Loading as load
 use Rattle.session.specs.Loading.{Loads}
 use Rattle.session.specs.Planned.{planned}
-use Rattle.session.specs.SchemaLoading as schema
-use Rattle.session.specs.SchemaLoading.{LoadsSchema}
 use Rattle.session_model.specs.declared.loaded.Loaded.{Loaded}
 use Rattle.tars_base.specs.Contents.{Held}
 use Rattle.tars_command.specs.Words.{AskForCheck, AskForPlan, AreNoForm}

@@ -4,8 +4,8 @@ use Rattle.std.specs.declared.vec.Vec.{Vec}
 use Rattle.tars_base.specs.Contents.{Held, HoldsOnly, Appends, AppendsPrefix}
 use Rattle.tars_base.specs.declared.status.Status.{Status}
 use Rattle.tars_base.specs.declared.status.Status.TheVariants.{WriteFault}
-use Rattle.session.specs.declared.load_fault.LoadFault.{LoadFault}
-use Rattle.session.specs.declared.load_fault.LoadFault.TheVariants as faults
+use Rattle.schema_files.specs.declared.load_fault.LoadFault.{LoadFault}
+use Rattle.schema_files.specs.declared.load_fault.LoadFault.TheVariants as faults
 use Rattle.tars_command.specs.Due.{Due, refused, done}
 
 -- a text, or a refusal, is what is due, and nothing else is; a failed read and want of memory say nothing of it

@@ -13,7 +13,8 @@ ghost use Rattle.tars_command.specs.RunSteps.{IsDueAnswered, EndsWith};
 
 use crate::words::{Request, request_of};
 use idl_check::print;
-use session::{LoadFault, Loaded, Mode, load, load_schema, report_text, run_plan};
+use schema_files::{LoadFault, load_schema};
+use session::{Loaded, Mode, load, report_text, run_plan};
 use std::alloc::{AllocError, Global};
 use tars_base::{Failed, Files, Sink, Status, write_all};
 

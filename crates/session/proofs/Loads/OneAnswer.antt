@@ -1,32 +1,32 @@
 -- Whatever the files hold, loading a script gives one answer, and no other.
-use Rattle.std.proofs.Common.{◌≡◌, ◌≤◌, ◌<◌, ◌⊎◌, inl, inr, ℕ, List, [], length, Option, Some, None, refl, sym, ap, subst, ◌∙◌, ⊎_elim, arith}
-use Rattle.std.proofs.lemmas.Bool.{cases_lt}
-use Rattle.tars_base.specs.Contents.{Contents, Held, HoldsOnly}
-use Rattle.tars_base.specs.Limits.{MAX_FILE}
-use Rattle.tars_model.specs.Declarations.{Declared, nothing_declared}
+use Rattle.std.proofs.Common.{◌≡◌, ◌⊎◌, inl, inr, ℕ, List, [], refl, sym, ap, subst, ◌∙◌}
+use Rattle.schema_files.specs.FileReading.{FileAnswer, ReadsFile}
+use Rattle.schema_files.specs.FileReading as file
+use Rattle.schema_files.specs.Refusals.{refusal_line}
+use Rattle.schema_files.specs.SchemaLoading.{SchemaAnswer, LoadsSchema}
+use Rattle.schema_files.specs.SchemaLoading as schema
+use Rattle.schema_files.proofs.CallerLemmas.{one_file, one_schema}
+use Rattle.script_text.specs.ScriptText.{ScriptText, IsScriptText}
 use Rattle.session.specs.Agreement.{Target, Agree}
 use Rattle.session.specs.Loading.{LoadAnswer, loaded, refused, unread, Loads, loaded_of}
 use Rattle.session.specs.Loading.{no_script, long_script, bad_script, no_interface, bad_interface, bad_value, session}
-use Rattle.session.specs.Refusals.{refusal_line, script_fault}
-use Rattle.session.specs.SchemaLoading.{SchemaAnswer, LoadsSchema}
-use Rattle.session.specs.SchemaLoading as schema
-use Rattle.session.specs.declared.refused_text.ScriptFault.TheVariants.{TooLong, Form, Value as BadValue}
-use Rattle.script_text.specs.ScriptText.{ScriptText, IsScriptText}
-use Rattle.facts.proofs.OptionLaws.{some_is}
-use Rattle.session.proofs.Loads.OneSchema.{one_schema}
+use Rattle.session.specs.ScriptFaults.{script_fault}
+use Rattle.session.specs.declared.script_fault.ScriptFault.TheVariants.{Form, Value as BadValue}
 use Rattle.session.proofs.Loads.OneScript.{scripts_alike, some_script}
 use Rattle.session.proofs.Loads.OneSession.{SomeAgreement, some_agreement, agree_alike, loaded_alike}
 use Rattle.session.proofs.Loads.Targets.{one_target}
+use Rattle.tars_base.specs.Contents.{Contents, Held, HoldsOnly}
+use Rattle.tars_model.specs.Declarations.{Declared, nothing_declared}
 
 abbrev pub OneAnswer : Held → List ℕ → Type 0
 OneAnswer h name = (answer : LoadAnswer) × HoldsOnly (Loads h name) answer
 
--- a file that is there is not missing, and has one text
-not_missing : (c : Contents) (name text : List ℕ) → c name ≡ Some text → c name ≡ None → ⊥
-not_missing c name text is none = let no : Some text ≡ None = sym is ∙ none in cc
+-- what reading a file gives, and nothing else
+abbrev GivesOnly : Contents → List ℕ → FileAnswer → Type 0
+GivesOnly c name answer = HoldsOnly (ReadsFile c name) answer
 
-one_text : (c : Contents) (name a b : List ℕ) → c name ≡ Some a → c name ≡ Some b → a ≡ b
-one_text c name a b is own = some_is a b (sym is ∙ own)
+one_text : (c : Contents) (name a b : List ℕ) → GivesOnly c name (file.whole a) → ReadsFile c name (file.whole b) → b ≡ a
+one_text c name a b one read = let same : file.whole b ≡ file.whole a = one.only (file.whole b) read in cc
 
 -- ---- a script that is read
 
@@ -40,20 +40,20 @@ pub data Left (given : SchemaAnswer) (name : List ℕ) (s : ScriptText) : LoadAn
 abbrev pub script_line : List ℕ → LoadAnswer
 script_line name = refused (refusal_line name (script_fault BadValue))
 
-module _ (h : Held) (name text : List ℕ) (s : ScriptText) (is : h 0 name ≡ Some text) (form : IsScriptText s text) (given : SchemaAnswer) (one : HoldsOnly (LoadsSchema (h 1) s.client) given) where
-  other_form : (t : ScriptText) (other : List ℕ) → h 0 name ≡ Some other → IsScriptText t other → IsScriptText t text
-  other_form t other own also = subst (IsScriptText t) (one_text (h 0) name other text own is) also
+module _ (h : Held) (name text : List ℕ) (s : ScriptText) (is : GivesOnly (h 0) name (file.whole text)) (form : IsScriptText s text) (given : SchemaAnswer) (one : HoldsOnly (LoadsSchema (h 1) s.client) given) where
+  other_form : (t : ScriptText) (other : List ℕ) → ReadsFile (h 0) name (file.whole other) → IsScriptText t other → IsScriptText t text
+  other_form t other own also = subst (IsScriptText t) (one_text (h 0) name text other is own) also
 
-  same_given : (t : ScriptText) (other : List ℕ) (answer : SchemaAnswer) → h 0 name ≡ Some other → IsScriptText t other → LoadsSchema (h 1) t.client answer → given ≡ answer
+  same_given : (t : ScriptText) (other : List ℕ) (answer : SchemaAnswer) → ReadsFile (h 0) name (file.whole other) → IsScriptText t other → LoadsSchema (h 1) t.client answer → given ≡ answer
   same_given t other answer own also loads =
       let same = scripts_alike text t s (other_form t other own also) form in
       sym (one.only answer (subst (λ (client : List ℕ). LoadsSchema (h 1) client answer) same.client loads))
 
   row_left : (answer : LoadAnswer) → Loads h name answer → Left given name s answer
-  row_left answer (no_script none) = absurd (not_missing (h 0) name text is none)
-  row_left answer (long_script other own long) = absurd (let same = one_text (h 0) name other text own is in omega (arith, long, form.within, ap length same))
-  row_left answer (bad_script other own within none) = absurd (none s (subst (IsScriptText s) (one_text (h 0) name text other is own) form))
-  row_left answer (no_interface other file t own also loads) = missing file (same_given t other (schema.unread file) own also loads)
+  row_left answer (no_script gone own) = absurd (let no : file.unread gone ≡ file.whole text = is.only (file.unread gone) own in cc)
+  row_left answer (long_script line own) = absurd (let no : file.refused line ≡ file.whole text = is.only (file.refused line) own in cc)
+  row_left answer (bad_script other own none) = absurd (none s (subst (IsScriptText s) (sym (one_text (h 0) name text other is own)) form))
+  row_left answer (no_interface other gone t own also loads) = missing gone (same_given t other (schema.unread gone) own also loads)
   row_left answer (bad_interface other line t own also loads) = bad_file line (same_given t other (schema.refused line) own also loads)
   row_left answer (bad_value other t d own also loads unlike) =
       apart d (same_given t other (schema.declared d) own also loads)
@@ -108,19 +108,19 @@ only_agreed given name s d t other is agree (agreed own u e a) =
 
 -- ---- the one answer
 
-module _ (h : Held) (name text : List ℕ) (s : ScriptText) (is : h 0 name ≡ Some text) (form : IsScriptText s text) where
+module _ (h : Held) (name text : List ℕ) (s : ScriptText) (is : GivesOnly (h 0) name (file.whole text)) (form : IsScriptText s text) where
   by_agreement : (d : Declared) → HoldsOnly (LoadsSchema (h 1) s.client) (schema.declared d) → SomeAgreement s d → OneAnswer h name
   by_agreement d one (inl found) = (
     _,
     record {
-      holds = session text s d found.0 is form one.holds found.1;
+      holds = session text s d found.0 is.holds form one.holds found.1;
       only = λ other given. only_agreed (schema.declared d) name s d found.0 other refl found.1 (row_left h name text s is form (schema.declared d) one other given);
     },
   )
   by_agreement d one (inr none) = (
     _,
     record {
-      holds = bad_value text s d is form one.holds none;
+      holds = bad_value text s d is.holds form one.holds none;
       only = λ other given. only_apart (schema.declared d) name s d other refl none (row_left h name text s is form (schema.declared d) one other given);
     },
   )
@@ -130,68 +130,74 @@ module _ (h : Held) (name text : List ℕ) (s : ScriptText) (is : h 0 name ≡ S
   by_schema (schema.refused line) one = (
     _,
     record {
-      holds = bad_interface text line s is form one.holds;
+      holds = bad_interface text line s is.holds form one.holds;
       only = λ other given. only_bad (schema.refused line) name line s other refl (row_left h name text s is form (schema.refused line) one other given);
     },
   )
-  by_schema (schema.unread file) one = (
+  by_schema (schema.unread gone) one = (
     _,
     record {
-      holds = no_interface text file s is form one.holds;
-      only = λ other given. only_missing (schema.unread file) name file s other refl (row_left h name text s is form (schema.unread file) one other given);
+      holds = no_interface text gone s is.holds form one.holds;
+      only = λ other given. only_missing (schema.unread gone) name gone s other refl (row_left h name text s is form (schema.unread gone) one other given);
     },
   )
 
-bad_form_only : (h : Held) (name text : List ℕ) → h 0 name ≡ Some text → length text ≤ MAX_FILE → ((s : ScriptText) → IsScriptText s text → ⊥) → HoldsOnly (Loads h name) (refused (refusal_line name (script_fault Form)))
-bad_form_only h name text is within none = record { holds = bad_script text is within none; only = only_this }
+bad_form : (h : Held) (name text : List ℕ) → GivesOnly (h 0) name (file.whole text) → ((s : ScriptText) → IsScriptText s text → ⊥) → OneAnswer h name
+bad_form h name text is none = (_, record { holds = bad_script text is.holds none; only = only_this })
   where
-    no_form : (other : List ℕ) (s : ScriptText) → h 0 name ≡ Some other → IsScriptText s other → ⊥
-    no_form other s own form = none s (subst (IsScriptText s) (one_text (h 0) name other text own is) form)
+    no_form : (other : List ℕ) (s : ScriptText) → ReadsFile (h 0) name (file.whole other) → IsScriptText s other → ⊥
+    no_form other s own form = none s (subst (IsScriptText s) (one_text (h 0) name text other is own) form)
 
     only_this : (other : LoadAnswer) → Loads h name other → other ≡ refused (refusal_line name (script_fault Form))
-    only_this other (no_script gone) = absurd (not_missing (h 0) name text is gone)
-    only_this other (long_script t own long) = absurd (let same = one_text (h 0) name t text own is in omega (arith, long, within, ap length same))
-    only_this other (bad_script t own short also) = refl
-    only_this other (no_interface t file s own form loads) = absurd (no_form t s own form)
+    only_this other (no_script gone own) = absurd (let no : file.unread gone ≡ file.whole text = is.only (file.unread gone) own in cc)
+    only_this other (long_script line own) = absurd (let no : file.refused line ≡ file.whole text = is.only (file.refused line) own in cc)
+    only_this other (bad_script t own also) = refl
+    only_this other (no_interface t gone s own form loads) = absurd (no_form t s own form)
     only_this other (bad_interface t line s own form loads) = absurd (no_form t s own form)
     only_this other (bad_value t s d own form loads un) = absurd (no_form t s own form)
     only_this other (session t s d x own form loads agree) = absurd (no_form t s own form)
 
-by_form : (h : Held) (name text : List ℕ) → h 0 name ≡ Some text → length text ≤ MAX_FILE → ((s : ScriptText) × IsScriptText s text) ⊎ ((s : ScriptText) → IsScriptText s text → ⊥) → OneAnswer h name
-by_form h name text is within (inl found) = let one = one_schema (h 1) found.0.client in by_schema h name text found.0 is found.1 one.0 one.1
-by_form h name text is within (inr none) = (_, bad_form_only h name text is within none)
+by_form : (h : Held) (name text : List ℕ) → GivesOnly (h 0) name (file.whole text) → ((s : ScriptText) × IsScriptText s text) ⊎ ((s : ScriptText) → IsScriptText s text → ⊥) → OneAnswer h name
+by_form h name text is (inl found) = let one = one_schema (h 1) found.0.client in by_schema h name text found.0 is found.1 one.0 one.1
+by_form h name text is (inr none) = bad_form h name text is none
 
-long_only : (h : Held) (name text : List ℕ) → h 0 name ≡ Some text → MAX_FILE < length text → HoldsOnly (Loads h name) (refused (refusal_line name (script_fault TooLong)))
-long_only h name text is long = record { holds = long_script text is long; only = only_this }
+long_file : (h : Held) (name line : List ℕ) → GivesOnly (h 0) name (file.refused line) → OneAnswer h name
+long_file h name line is = (refused line, record { holds = long_script line is.holds; only = only_this })
   where
-    no_form : (other : List ℕ) → h 0 name ≡ Some other → length other ≤ MAX_FILE → ⊥
-    no_form other own within = let same = one_text (h 0) name other text own is in omega (arith, long, within, ap length same)
+    no_text : (text : List ℕ) → ReadsFile (h 0) name (file.whole text) → ⊥
+    no_text text own = let no : file.whole text ≡ file.refused line = is.only (file.whole text) own in cc
 
-    only_this : (other : LoadAnswer) → Loads h name other → other ≡ refused (refusal_line name (script_fault TooLong))
-    only_this other (no_script gone) = absurd (not_missing (h 0) name text is gone)
-    only_this other (long_script t own also) = refl
-    only_this other (bad_script t own within none) = absurd (no_form t own within)
-    only_this other (no_interface t file s own form loads) = absurd (no_form t own form.within)
-    only_this other (bad_interface t line s own form loads) = absurd (no_form t own form.within)
-    only_this other (bad_value t s d own form loads un) = absurd (no_form t own form.within)
-    only_this other (session t s d x own form loads agree) = absurd (no_form t own form.within)
+    only_this : (other : LoadAnswer) → Loads h name other → other ≡ refused line
+    only_this other (no_script gone own) = absurd (let no : file.unread gone ≡ file.refused line = is.only (file.unread gone) own in cc)
+    only_this other (long_script also own) = let same : file.refused also ≡ file.refused line = is.only (file.refused also) own in cc
+    only_this other (bad_script t own none) = absurd (no_text t own)
+    only_this other (no_interface t gone s own form loads) = absurd (no_text t own)
+    only_this other (bad_interface t also s own form loads) = absurd (no_text t own)
+    only_this other (bad_value t s d own form loads un) = absurd (no_text t own)
+    only_this other (session t s d x own form loads agree) = absurd (no_text t own)
 
-by_script : (h : Held) (name : List ℕ) (o : Option (List ℕ)) → h 0 name ≡ o → OneAnswer h name
-by_script h name (Some text) is =
-    ⊎_elim (λ long. (_, long_only h name text is long)) (λ within. by_form h name text is within (some_script text)) (cases_lt MAX_FILE (length text))
-by_script h name None none = (unread name, record { holds = no_script none; only = only_this })
+no_file : (h : Held) (name gone : List ℕ) → GivesOnly (h 0) name (file.unread gone) → OneAnswer h name
+no_file h name gone is = (unread gone, record { holds = no_script gone is.holds; only = only_this })
   where
-    only_this : (other : LoadAnswer) → Loads h name other → other ≡ unread name
-    only_this other (no_script gone) = refl
-    only_this other (long_script t own long) = absurd (not_missing (h 0) name t own none)
-    only_this other (bad_script t own within also) = absurd (not_missing (h 0) name t own none)
-    only_this other (no_interface t file s own form loads) = absurd (not_missing (h 0) name t own none)
-    only_this other (bad_interface t line s own form loads) = absurd (not_missing (h 0) name t own none)
-    only_this other (bad_value t s d own form loads un) = absurd (not_missing (h 0) name t own none)
-    only_this other (session t s d x own form loads agree) = absurd (not_missing (h 0) name t own none)
+    no_text : (text : List ℕ) → ReadsFile (h 0) name (file.whole text) → ⊥
+    no_text text own = let no : file.whole text ≡ file.unread gone = is.only (file.whole text) own in cc
+
+    only_this : (other : LoadAnswer) → Loads h name other → other ≡ unread gone
+    only_this other (no_script also own) = let same : file.unread also ≡ file.unread gone = is.only (file.unread also) own in cc
+    only_this other (long_script line own) = absurd (let no : file.refused line ≡ file.unread gone = is.only (file.refused line) own in cc)
+    only_this other (bad_script t own none) = absurd (no_text t own)
+    only_this other (no_interface t also s own form loads) = absurd (no_text t own)
+    only_this other (bad_interface t line s own form loads) = absurd (no_text t own)
+    only_this other (bad_value t s d own form loads un) = absurd (no_text t own)
+    only_this other (session t s d x own form loads agree) = absurd (no_text t own)
+
+by_file : (h : Held) (name : List ℕ) (given : FileAnswer) → GivesOnly (h 0) name given → OneAnswer h name
+by_file h name (file.whole text) is = by_form h name text is (some_script text)
+by_file h name (file.refused line) is = long_file h name line is
+by_file h name (file.unread gone) is = no_file h name gone is
 
 pub one_answer : (h : Held) (name : List ℕ) → OneAnswer h name
-one_answer h name = by_script h name (h 0 name) refl
+one_answer h name = let one = one_file (h 0) name in by_file h name one.0 one.1
 
 -- what holds is the one answer
 pub only_answer : (h : Held) (name : List ℕ) (answer : LoadAnswer) → Loads h name answer → HoldsOnly (Loads h name) answer

@@ -15,8 +15,8 @@ use Rattle.idl_rules.specs.Conditions.{faults_of}
 use Rattle.idl_schema.specs.SchemaOf.{schema_of}
 use Rattle.least_fault.specs.Least.{IsLeast, NoneBelow, least_of}
 use Rattle.least_fault.proofs.Lesser.{none_empty, some_least}
-use Rattle.session.specs.Refusals.{refusal_line, file_fault, rule_fault}
-use Rattle.session.specs.SchemaLoading.{SchemaAnswer, declared, refused, unread, name_at, LoadsSchema, no_file, bad_file, broken_rule, schema}
+use Rattle.schema_files.specs.Refusals.{refusal_line, file_fault, rule_fault}
+use Rattle.schema_files.specs.SchemaLoading.{SchemaAnswer, declared, refused, unread, name_at, LoadsSchema, no_file, bad_file, broken_rule, schema}
 use Rattle.tars_base.specs.Contents.{Contents, HoldsOnly}
 
 abbrev pub OneSchema : Contents → List ℕ → Type 0

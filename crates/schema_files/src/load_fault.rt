@@ -1,6 +1,6 @@
 ghost use Rattle.std.specs.Prelude.{◌≡◌};
-ghost use Rattle.session.specs.LoadSteps.{fault_of};
-ghost use Rattle.session.specs.declared.load_fault.LoadFault.TheVariants.{Memory as no_memory};
+ghost use Rattle.schema_files.specs.LoadSteps.{fault_of};
+ghost use Rattle.schema_files.specs.declared.load_fault.LoadFault.TheVariants.{Memory as no_memory};
 
 use std::alloc::AllocError;
 use tars_base::ReadFault;

@@ -1,14 +1,15 @@
--- For the proofs: what the functions of src/schema_loading.rt and src/loading.rt make of the errors of others.
-use Rattle.std.specs.Prelude.{◌≡◌, ℕ, List}
+-- For the proofs: what the calls of loading make of the errors of others.
+use Rattle.std.specs.Prelude.{◌≡◌, List}
 use Rattle.idl_check.specs.declared.check_fault.CheckFault.{CheckFault}
 use Rattle.idl_check.specs.declared.check_fault.CheckFault.TheVariants as checks
 use Rattle.idl_load.specs.declared.files_fault.FilesFault.{FilesFault}
 use Rattle.idl_load.specs.declared.files_fault.FilesFault.TheVariants as files
 use Rattle.idl_parse.specs.Files.{File}
-use Rattle.session.specs.Refusals.{refusal_line, file_fault, rule_fault}
-use Rattle.session.specs.SchemaLoading.{name_at}
-use Rattle.session.specs.declared.load_fault.LoadFault.{LoadFault}
-use Rattle.session.specs.declared.load_fault.LoadFault.TheVariants.{Refused, Read, Memory}
+use Rattle.schema_files.specs.LoadAnswers.{IsRefusedBy}
+use Rattle.schema_files.specs.Refusals.{refusal_line, file_fault, rule_fault}
+use Rattle.schema_files.specs.SchemaLoading.{name_at}
+use Rattle.schema_files.specs.declared.load_fault.LoadFault.{LoadFault}
+use Rattle.schema_files.specs.declared.load_fault.LoadFault.TheVariants.{Read, Memory}
 use Rattle.tars_base.specs.declared.fault.ReadFault.{ReadFault}
 use Rattle.tars_base.specs.declared.fault.ReadFault.TheVariants as reads
 
@@ -16,12 +17,6 @@ use Rattle.tars_base.specs.declared.fault.ReadFault.TheVariants as reads
 abbrev pub fault_of : ReadFault → LoadFault
 fault_of reads.Failed = Read
 fault_of reads.Memory = Memory
-
--- a fault refuses a text by this line, or tells that there was no memory for it
-abbrev pub IsRefusedBy : List ℕ → LoadFault → Type 0
-IsRefusedBy line (Refused own) = own ≡ line
-IsRefusedBy line Read = ⊥
-IsRefusedBy line Memory = Unit {0}
 
 -- what files that were not loaded are to one who loads their schema
 abbrev pub IsNotLoaded : FilesFault → LoadFault → Type 0

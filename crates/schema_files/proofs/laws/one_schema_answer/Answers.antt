@@ -1,6 +1,6 @@
 use Rattle.std.proofs.Common.{sym, ◌∙◌}
-use Rattle.session.proofs.Loads.OneSchema.{one_schema}
-use Rattle.session.proofs.laws.one_schema_answer.Goals as goal
+use Rattle.schema_files.proofs.OneSchema.{one_schema}
+use Rattle.schema_files.proofs.laws.one_schema_answer.Goals as goal
 
 pub returns-clause-some : goal.returns-clause-some
 returns-clause-some c = λ files file. let one = one_schema files file in (one.0, one.1.holds)

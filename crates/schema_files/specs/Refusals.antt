@@ -8,11 +8,9 @@ use Rattle.idl_parse.specs.ParseWhy.{number_of as parse_number_of}
 use Rattle.idl_scene.specs.Faults.{number_of as rule_number_of}
 use Rattle.idl_scene.specs.declared.check_fault.CheckWhy.TheVariants.{TooMany}
 use Rattle.idl_scene.specs.declared.check_fault.Fault.{Fault}
-use Rattle.session.specs.declared.refused_text.ScriptFault.{ScriptFault}
-use Rattle.session.specs.declared.refused_text.ScriptFault.TheVariants as script
-use Rattle.session.specs.declared.refused_text.Stage.{Stage}
-use Rattle.session.specs.declared.refused_text.Stage.TheVariants.{Size, Lex, Parse, Check, Script}
-use Rattle.session.specs.declared.refused_text.TextFault.{TextFault}
+use Rattle.schema_files.specs.declared.stage.Stage.{Stage}
+use Rattle.schema_files.specs.declared.stage.Stage.TheVariants.{Size, Lex, Parse, Check, Script, Value, Hex, Struct}
+use Rattle.schema_files.specs.declared.text_fault.TextFault.{TextFault}
 use Rattle.tars_base.specs.Limits.{MAX_FILE}
 
 -- how a stage is written
@@ -22,6 +20,9 @@ stage_text Lex = codes "lex"
 stage_text Parse = codes "parse"
 stage_text Check = codes "check"
 stage_text Script = codes "script"
+stage_text Value = codes "value"
+stage_text Hex = codes "hex"
+stage_text Struct = codes "struct"
 
 -- `refused FILE STAGE NUMBER OFFSET`
 unfoldable pub refusal_line : List ℕ → TextFault → List ℕ
@@ -32,15 +33,9 @@ refusal_line name fault =
 abbrev pub fault_at : Stage → ℕ → ℕ → TextFault
 fault_at stage number offset = record { stage = stage; number = number; offset = offset }
 
--- a script or an interface file has more bytes than a file may have
+-- a file has more bytes than a file may have
 abbrev pub too_long : TextFault
 too_long = fault_at Size 1 MAX_FILE
-
--- what is wrong with a script
-abbrev pub script_fault : ScriptFault → TextFault
-script_fault script.TooLong = too_long
-script_fault script.Form = fault_at Script 1 0
-script_fault script.Value = fault_at Script 7 0
 
 -- what is wrong with an interface file, or with what it includes
 abbrev pub file_fault : FileFault → TextFault

@@ -1,31 +1,20 @@
 //! Interface files, with those that they include, as a schema (docs/IDL.md, "Loading", "Rules" and "Schemas").
 
 ghost use Rattle.std.specs.Prelude.{◌≡◌};
-ghost use Rattle.session.specs.LoadAnswers.{IsSchemaAnswered};
-ghost use Rattle.session.specs.LoadSteps.{IsRefusedBy, IsNotLoaded, IsNotChecked};
-ghost use Rattle.session.specs.Refusals.{refusal_line as line_of};
-ghost use Rattle.session.specs.SchemaLoading.{name_at};
+ghost use Rattle.schema_files.specs.LoadAnswers.{IsSchemaAnswered};
+ghost use Rattle.schema_files.specs.LoadSteps.{IsNotLoaded, IsNotChecked};
+ghost use Rattle.schema_files.specs.SchemaLoading.{name_at};
 ghost use Rattle.tars_base.specs.Causes.{HasCauseOf};
 ghost use Rattle.tars_base.specs.Contents.{Contents as Told, AreTold};
 
-use crate::LoadFault;
-use crate::refused_text::{TextFault, refusal_line};
+use crate::refused_text::refused;
+use crate::{LoadFault, TextFault};
 use idl_check::{CheckFault, check};
 use idl_load::{FilesFault, load_files};
 use idl_parse::Ast;
 use std::alloc::Global;
 use tars_base::Files;
 use tars_model::Schema;
-
-/// Refuses the text of a file, if there is memory for the line.
-pub(crate) fn refused(alloc: Global, file: &[u8], fault: TextFault) -> LoadFault
-    ensures { IsRefusedBy (line_of file.now fault) result }
-{
-    match refusal_line(alloc, file, fault) {
-        Ok(line) => LoadFault::Refused { line },
-        Err(_) => LoadFault::Memory,
-    }
-}
 
 fn not_loaded(alloc: Global, fault: FilesFault) -> LoadFault
     ensures { IsNotLoaded fault result }

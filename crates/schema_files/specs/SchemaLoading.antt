@@ -9,7 +9,7 @@ use Rattle.idl_scene.specs.declared.check_fault.Fault.{Fault}
 use Rattle.idl_rules.specs.Conditions.{faults_of}
 use Rattle.idl_schema.specs.SchemaOf.{schema_of}
 use Rattle.least_fault.specs.Least.{IsLeast}
-use Rattle.session.specs.Refusals.{refusal_line, file_fault, rule_fault}
+use Rattle.schema_files.specs.Refusals.{refusal_line, file_fault, rule_fault}
 use Rattle.tars_base.specs.Contents.{Contents}
 use Rattle.tars_model.specs.Declarations.{Declared}
 

@@ -1,9 +1,9 @@
 use Rattle.std.proofs.Common.{List, Ok, Err, subst}
 use Rattle.idl_check.specs.Checked.{IsChecked}
 use Rattle.idl_parse.specs.Files.{File}
-use Rattle.session.specs.LoadSteps.{IsNotChecked}
-use Rattle.session.proofs.Loads.Loading.{files_short, not_loaded, not_checked, checked}
-use Rattle.session.proofs.schema_loading.load_schema.Goals as goal
+use Rattle.schema_files.specs.LoadSteps.{IsNotChecked}
+use Rattle.schema_files.proofs.SchemaLoading.{files_short, not_loaded, not_checked, checked}
+use Rattle.schema_files.proofs.schema_loading.load_schema.Goals as goal
 
 pub returns-in-Err-clause-exact : goal.returns-in-Err-clause-exact
 returns-in-Err-clause-exact g c =

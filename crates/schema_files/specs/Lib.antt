@@ -1,0 +1,5 @@
+pub mod Refusals
+pub mod FileReading
+pub mod SchemaLoading
+pub mod LoadAnswers
+pub mod LoadSteps
