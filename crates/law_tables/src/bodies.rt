@@ -2,16 +2,16 @@
 
 ghost use Rattle.std.specs.Prelude.{◌≡◌, true, IsTrue};
 ghost use Rattle.std.specs.List.{All};
-ghost use Rattle.tars_codec.specs.PacketTypes.{IsPacketType, IsPacketMember};
-ghost use Rattle.tars_codec.specs.Written.{WereWritten};
 ghost use Rattle.tars_model.specs.Members.{IsBelowNext, HaveRisingTags};
 ghost use Rattle.tars_model.specs.Values.{fit_members};
+ghost use Rattle.tars_decode.specs.Decoding.{DefaultFits, MembersFit};
 
 use crate::page::Page;
+use crate::structs::{MOST, put_refuse};
 use crate::values::{put_hex, put_values};
 use bytes::BytesMut;
-use tars_codec::{Refuse, decode, encode};
-use tars_model::{Member, Schema, Ty, Value, fits};
+use tars_codec::{decode, encode};
+use tars_model::{Member, Schema, Value, fits};
 
 /// Whether a tag is below those of members.
 fn is_below(tag: u8, members: &[Member]) -> bool
@@ -32,24 +32,19 @@ fn tags_rise(members: &[Member]) -> bool
     }
 }
 
-/// Whether packets have members of the type.
-fn is_packet_type(ty: &Ty) -> bool
-    ensures { IsTrue result → IsPacketType ty.now }
+/// Whether a member is required, or its default is one of its type.
+fn default_fits(schema: &Schema, member: &Member) -> bool
+    ensures { IsTrue result → DefaultFits schema.now member.now }
 {
-    match ty {
-        Ty::Byte | Ty::Short | Ty::Int | Ty::Text => true,
-        Ty::Vector(of) => matches!(of.get(), Ty::Byte),
-        Ty::Map(key, to) => matches!(key.get(), Ty::Text) && matches!(to.get(), Ty::Text),
-        _ => false,
-    }
+    member.require || fits(schema, &member.ty, &member.default)
 }
 
-fn are_packet_members(members: &[Member]) -> bool
-    ensures { IsTrue result → All IsPacketMember members.now }
+fn defaults_fit(schema: &Schema, members: &[Member]) -> bool
+    ensures { IsTrue result → All (DefaultFits schema.now) members.now }
 {
     match members {
         [] => true,
-        [first, rest @ ..] => is_packet_type(&first.ty) && are_packet_members(rest),
+        [first, rest @ ..] => default_fits(schema, first) && defaults_fit(schema, rest),
     }
 }
 
@@ -69,26 +64,26 @@ fn members_fit(schema: &Schema, members: &[Member], values: &[Value]) -> bool
 
 /// Adds the bytes, and the values that are read from them.
 fn put_read(page: &mut Page, schema: &Schema, members: &[Member], bytes: &[u8])
-    requires rising { HaveRisingTags members.now }
-    requires types { All IsPacketMember members.now }
-    requires written { WereWritten schema.now members.now bytes.now }
+    requires { MembersFit schema.now members.now }
 {
     put_hex(page, bytes);
     page.add(" is ");
+    if bytes.len() > MOST {
+        return page.add("too long");
+    }
     match decode(page.alloc(), schema, members, bytes) {
         Ok(values) => put_values(page, values.as_slice()),
-        Err(Refuse::Memory) => page.fail(),
+        Err(refuse) => put_refuse(page, &refuse),
     }
 }
 
 /// Adds the bytes that spell the values, and the values that are read from them.
 fn put_body(page: &mut Page, schema: &Schema, members: &[Member], values: &[Value])
-    requires rising { HaveRisingTags members.now }
-    requires types { All IsPacketMember members.now }
+    requires members { MembersFit schema.now members.now }
     requires fits { fit_members schema.now members.now values.now ≡ true }
 {
     let mut bytes = BytesMut::new(page.alloc());
-    match encode(page.alloc(), schema, members, values, &mut bytes) {
+    match encode(schema, members, values, &mut bytes) {
         Ok(()) => put_read(page, schema, members, bytes.as_slice()),
         Err(_) => page.fail(),
     }
@@ -97,7 +92,7 @@ fn put_body(page: &mut Page, schema: &Schema, members: &[Member], values: &[Valu
 /// Adds what comes of values under members: the bytes that spell them, and the values that are read from these.
 pub fn put_coded(page: &mut Page, members: &[Member], values: &[Value]) {
     let schema = Schema::empty(page.alloc());
-    if tags_rise(members) && are_packet_members(members) && members_fit(&schema, members, values) {
+    if tags_rise(members) && defaults_fit(&schema, members) && members_fit(&schema, members, values) {
         put_body(page, &schema, members, values);
     } else {
         page.add("no values of the members");

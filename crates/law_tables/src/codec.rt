@@ -17,6 +17,10 @@ fn type_of(alloc: Global, word: &str) -> Result<Ty, AllocError> {
     match word {
         "byte" => Ok(Ty::Byte),
         "short" => Ok(Ty::Short),
+        "long" => Ok(Ty::Long),
+        "ubyte" => Ok(Ty::UByte),
+        "ushort" => Ok(Ty::UShort),
+        "uint" => Ok(Ty::UInt),
         "string" => Ok(Ty::Text),
         "bytes" => Ok(Ty::Vector(Boxed::new(alloc, Ty::Byte)?)),
         "map" => texts_type(alloc),

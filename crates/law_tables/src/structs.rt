@@ -11,7 +11,7 @@ use tars_model::{Schema, Ty, Value, default_of, fits};
 use value_text::{ValueFault, print_value, read_value};
 
 /// The most bytes of a body or of a value's text.
-const MOST: usize = 1 << 20;
+pub const MOST: usize = 1 << 20;
 
 /// What a row asks of a struct: its default, what a body says under its members, or what a text says.
 #[derive(Clone, Copy)]
@@ -51,7 +51,7 @@ fn put_refused(page: &mut Page, why: &str, path: &[u32]) {
     }
 }
 
-fn put_refuse(page: &mut Page, refuse: &Refuse) {
+pub fn put_refuse(page: &mut Page, refuse: &Refuse) {
     match refuse {
         Refuse::Malformed(fault) => {
             let (number, at) = (fault.why.number(), fault.at);

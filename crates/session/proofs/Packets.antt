@@ -1,6 +1,6 @@
 -- What is in the packets of a call, and that they are packets.
-pub mod Types
 pub mod Fits
+pub mod Members
 pub mod Framed
 pub mod FramesArePackets
 pub mod Lengths

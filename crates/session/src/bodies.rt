@@ -1,12 +1,9 @@
 //! Values as the bodies of packets and calls, and back.
 
-ghost use Rattle.std.specs.Prelude.{◌≡◌, IfOk};
-ghost use Rattle.std.specs.List.{All};
-ghost use Rattle.tars_model.specs.Declarations.{nothing_declared};
+ghost use Rattle.std.specs.Prelude.{◌≡◌, ◌<◌, ◌^◌, length, List, IfOk};
 ghost use Rattle.tars_model.specs.Members.{HaveRisingTags};
-ghost use Rattle.tars_codec.specs.PacketTypes.{IsPacketMember};
-ghost use Rattle.tars_codec.specs.Written.{WereWritten, ReadsWritten};
-ghost use Rattle.session.specs.Bodies.{FitMembers, body_of};
+ghost use Rattle.tars_model.specs.declared.value.Value.{Value as AValue};
+ghost use Rattle.session.specs.Bodies.{AreReadable, FitMembers, body_of};
 
 use bytes::BytesMut;
 use std::alloc::{AllocError, Global};
@@ -24,7 +21,7 @@ pub(crate) fn write_body(
     ensures { IfOk result (λ body. body.items ≡ body_of members.now values.now) }
 {
     let mut body = BytesMut::new(alloc);
-    encode(alloc, &Schema::empty(alloc), members, values, &mut body)?;
+    encode(&Schema::empty(alloc), members, values, &mut body)?;
     Ok(body.into_vec()?)
 }
 
@@ -34,14 +31,16 @@ pub(crate) fn read_body(
     members: &[Member],
     body: &[u8],
 ) -> Result<Listed<Value>, AllocError>
-    requires rising { HaveRisingTags members.now }
-    requires types { All IsPacketMember members.now }
-    requires written { WereWritten nothing_declared members.now body.now }
-    ensures { ReadsWritten nothing_declared members.now body.now result }
+    requires members { AreReadable members.now }
+    requires short { length body.now < 2 ^ 32 }
+    requires written { (values : List AValue) × FitMembers members.now values × (body.now ≡ body_of members.now values) }
+    ensures { (values : List AValue) → FitMembers members.now values → body.now ≡ body_of members.now values → IfOk result (λ read. read ≡ values) }
 {
-    let schema = Schema::empty(alloc);
-    match decode(alloc, &schema, members, body) {
+    match decode(alloc, &Schema::empty(alloc), members, body) {
         Ok(values) => Ok(values),
         Err(Refuse::Memory) => Err(AllocError),
+        Err(Refuse::Malformed(_)) => unreachable!(),
+        Err(Refuse::Missing { path: _ }) => unreachable!(),
+        Err(Refuse::Mismatch { path: _, why: _ }) => unreachable!(),
     }
 }

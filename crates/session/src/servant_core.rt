@@ -55,7 +55,7 @@ fn response(alloc: Global, service: &Service, id: u32, sum: i64) -> Result<Respo
 }
 
 /// The arguments that a call's body was written from.
-#[tactic(auto, using(crate::proofs::Packets::Services::arguments_rise, crate::proofs::Packets::Services::argument_types, crate::proofs::Packets::Services::arguments_fit))]
+#[tactic(auto, using(crate::proofs::Packets::Services::arguments_readable, crate::proofs::Packets::Services::arguments_fit, crate::proofs::Packets::Services::arguments_short))]
 fn read_args(alloc: Global, service: &Service, body: &[u8]) -> Result<List<Value>, AllocError>
     requires service { IsService service.now }
     requires written { (args : Listed AValue) × AreTwoInts args × (body.now ≡ body_of service.now.arguments args) }

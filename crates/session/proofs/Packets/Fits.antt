@@ -36,10 +36,10 @@ natural_fits n h = number_fits Int ty.Int (pos n) outs-Int (lt-ltb n (2 ^ 31) h)
 version_fits : FitsType Short (Num (pos 1))
 version_fits = number_fits Short ty.Short (pos 1) outs-Short refl
 
-kind_fits : FitsType Byte (Num (pos 0))
+pub kind_fits : FitsType Byte (Num (pos 0))
 kind_fits = number_fits Byte ty.Byte (pos 0) outs-Byte refl
 
-zero_fits : FitsType Int (Num (pos 0))
+pub zero_fits : FitsType Int (Num (pos 0))
 zero_fits = number_fits Int ty.Int (pos 0) outs-Int refl
 
 text_fits : (bytes : List ℕ) → length bytes ≤ MAX_TEXT → FitsType TextTy (Text bytes)
@@ -50,7 +50,10 @@ blob_fits bytes h =
     told_fits_blob (Blob bytes) nothing_declared (Vector Byte) bytes refl ∙ ap (fits_blob (length bytes)) (outs-Vector Byte)
     ∙ ap (λ (l : TyLayer). is_byte l && nat_lt (length bytes) (2 ^ 31)) outs-Byte ∙ lt-ltb (length bytes) (2 ^ 31) (omega (arith, h))
 
-no_texts_fit : FitsType (MapTy TextTy TextTy) (Map [])
+pub no_text_fits : FitsType TextTy (Text [])
+no_text_fits = text_fits [] (omega arith)
+
+pub no_texts_fit : FitsType (MapTy TextTy TextTy) (Map [])
 no_texts_fit = told_fits_map (Map []) nothing_declared (MapTy TextTy TextTy) [] refl ∙ ap (fits_map [] nothing_declared) (outs-Map TextTy TextTy)
 
 -- ---- packets
@@ -75,4 +78,4 @@ unfolding response_members response_values
 response_fits r h =
     and_from _ _ version_fits (and_from _ _ kind_fits (and_from _ _ (natural_fits r.id h.id) (and_from _ _ zero_fits (
     and_from _ _ (int_fits r.ret h.ret_int) (and_from _ _ (blob_fits r.body h.body) (
-    and_from _ _ no_texts_fit (and_from _ _ (text_fits [] (omega arith)) refl)))))))
+    and_from _ _ no_texts_fit (and_from _ _ no_text_fits refl)))))))

@@ -1,7 +1,7 @@
 -- How long a packet's body is at most.
 use Rattle.std.proofs.Common.{◌<◌, ◌≤◌, ◌^◌, ◌+◌, ◌*◌, ℕ, List, [], ◌∷◌, length, arith, cond, Bool, true, false, lit≤, length-append, pos}
 use Rattle.std.specs.Prelude.{nat_lt, nat_le, ℤ}
-use Rattle.wire_words.specs.Packets.{LENGTH_BYTES}
+use Rattle.wire_words.specs.Packets.{LENGTH_BYTES, framed}
 use Rattle.wire_words.specs.Tree.{WireNumber, zero_tag, int1, int2, int4, int8, string1, string4}
 use Rattle.wire_words.specs.Spelling.{head, two_complement, spelled_number, spelled_size, shortest, spelled}
 use Rattle.tars_model.specs.Declarations.{nothing_declared}
@@ -15,7 +15,7 @@ use Rattle.tars_codec.proofs.CallerLemmas.{wire_value_at}
 use Rattle.session.specs.Bodies.{body_of}
 use Rattle.session.specs.declared.rpc_packet.request.Request.{Request}
 use Rattle.session.specs.declared.rpc_packet.response.Response.{Response}
-use Rattle.session.specs.RpcPackets.{IsSendable, IsAnswerable, request_members, request_values, response_members, response_values}
+use Rattle.session.specs.RpcPackets.{IsSendable, IsAnswerable, request_members, request_values, request_frame, response_members, response_values, response_frame}
 
 head_short : (tag type : ℕ) → length (head tag type) ≤ 2
 unfolding head
@@ -62,7 +62,15 @@ unfolding written request_members request_values
 request_short r h =
     simp length-append (omega (arith, num_short 1 Short (pos 1), num_short 2 Byte (pos 0), num_short 3 Int (pos 0), num_short 4 Int (pos r.id), text_short 5 TextTy r.servant, text_short 6 TextTy r.func, blob_short 7 (Vector Byte) r.body, num_short 8 Int (pos r.timeout), empty_short 9, empty_short 10))
 
+pub request_frame_short : (r : Request) → IsSendable r → length (request_frame r) < 2 ^ 32
+unfolding request_frame framed
+request_frame_short r h = omega (arith, request_short r h)
+
 pub response_short : (r : Response) → IsAnswerable r → length (body_of response_members (response_values r)) + LENGTH_BYTES < 2 ^ 32
 unfolding written response_members response_values
 response_short r h =
     simp length-append (omega (arith, num_short 1 Short (pos 1), num_short 2 Byte (pos 0), num_short 3 Int (pos r.id), num_short 4 Int (pos 0), num_short 5 Int r.ret, blob_short 6 (Vector Byte) r.body, empty_short 7, text_short 8 TextTy []))
+
+pub response_frame_short : (r : Response) → IsAnswerable r → length (response_frame r) < 2 ^ 32
+unfolding response_frame framed
+response_frame_short r h = omega (arith, response_short r h)

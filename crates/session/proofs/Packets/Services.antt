@@ -5,11 +5,9 @@ use Rattle.tars_model.proofs.CallerLemmas.{int_test, int_passes}
 use Rattle.tars_model.specs.Members.{HaveRisingTags, required}
 use Rattle.tars_model.specs.declared.ty.Ty.{Int}
 use Rattle.tars_model.specs.declared.value.Value.{Value, Num}
-use Rattle.std.specs.List.{All}
 use Rattle.std.proofs.lemmas.Bool.{and_from}
-use Rattle.tars_codec.specs.PacketTypes.{IsPacketMember}
 use Rattle.tars_codec.specs.Written.{written}
-use Rattle.session.specs.Bodies.{FitMembers, body_of}
+use Rattle.session.specs.Bodies.{AreReadable, FitMembers, body_of}
 use Rattle.session.specs.declared.rpc_packet.response.Response.{Response}
 use Rattle.session.specs.declared.service.Service.{Service}
 use Rattle.session.specs.Services.{IsService, AreTwoInts, Asks, reply_to, request_of, response_of, response_with}
@@ -17,16 +15,16 @@ use Rattle.session_model.specs.Replies.{Reply, sum, code, UNKNOWN, added, argume
 use Rattle.session.specs.RpcPackets.{MAX_TEXT, IsSendable, IsAnswerable}
 use Rattle.session.proofs.Packets.Fits.{int_fits}
 use Rattle.session.proofs.Packets.Lengths.{num_short}
-use Rattle.session.proofs.Packets.Types.{two_types, one_type}
+use Rattle.session.proofs.Packets.Members.{two_readable, one_readable}
 
 pub arguments_rise : (s : Service) → IsService s → HaveRisingTags s.arguments
 arguments_rise s h = rw h.arguments_are (search rules)
 
-pub argument_types : (s : Service) → IsService s → All IsPacketMember s.arguments
-argument_types s h = rw h.arguments_are (two_types (required 1 Int h.first) (required 2 Int h.second) refl refl)
+pub arguments_readable : (s : Service) → IsService s → AreReadable s.arguments
+arguments_readable s h = rw h.arguments_are (two_readable h.first h.second)
 
-pub reply_types : (s : Service) → IsService s → All IsPacketMember s.reply
-reply_types s h = rw h.reply_is (one_type (required 0 Int []) refl)
+pub reply_readable : (s : Service) → IsService s → AreReadable s.reply
+reply_readable s h = rw h.reply_is (one_readable [])
 
 pub reply_rises : (s : Service) → IsService s → HaveRisingTags s.reply
 reply_rises s h = rw h.reply_is (search rules)

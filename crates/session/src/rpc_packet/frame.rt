@@ -1,9 +1,7 @@
 ghost use Rattle.std.specs.Prelude.{◌≡◌, ◌+◌, ◌<◌, ◌^◌, length, ℕ, List, [], IfOk};
-ghost use Rattle.std.specs.List.{All};
 ghost use Rattle.tars_model.specs.declared.value.Value.{Value as AValue, Map as AMap};
 ghost use Rattle.tars_model.specs.Members.{HaveRisingTags};
-ghost use Rattle.tars_codec.specs.PacketTypes.{IsPacketMember};
-ghost use Rattle.session.specs.Bodies.{FitMembers, body_of};
+ghost use Rattle.session.specs.Bodies.{AreReadable, FitMembers, body_of};
 ghost use Rattle.wire_words.specs.Packets.{LENGTH_BYTES, framed};
 
 use crate::bodies::{read_body, write_body};
@@ -44,8 +42,8 @@ pub fn read_frame(
     members: &[Member],
     packet: &[u8],
 ) -> Result<Listed<Value>, AllocError>
-    requires rising { HaveRisingTags members.now }
-    requires types { All IsPacketMember members.now }
+    requires members { AreReadable members.now }
+    requires short { length packet.now < 2 ^ 32 }
     requires written { (values : List AValue) × FitMembers members.now values × (packet.now ≡ framed (body_of members.now values)) }
     ensures { (values : List AValue) → FitMembers members.now values → packet.now ≡ framed (body_of members.now values) → IfOk result (λ read. read ≡ values) }
 {

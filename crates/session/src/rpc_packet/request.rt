@@ -66,7 +66,7 @@ fn values_of(alloc: Global, request: Request) -> [Value; 10]
 }
 
 /// Reads the packet of a request that was written.
-#[tactic(auto, using(crate::proofs::Packets::Fits::request_rises, crate::proofs::Packets::Fits::request_fits, crate::proofs::Packets::Types::request_types), unfolding(crate::specs::RpcPackets::request_frame))]
+#[tactic(auto, using(crate::proofs::Packets::Members::request_readable, crate::proofs::Packets::Fits::request_fits, crate::proofs::Packets::Lengths::request_frame_short), unfolding(crate::specs::RpcPackets::request_frame))]
 pub fn read_request(
     alloc: Global,
     members: &[Member],

@@ -48,7 +48,7 @@ fn values_of(alloc: Global, response: Response) -> [Value; 8]
 }
 
 /// Reads the packet of a response that was written.
-#[tactic(auto, using(crate::proofs::Packets::Fits::response_rises, crate::proofs::Packets::Fits::response_fits, crate::proofs::Packets::Types::response_types), unfolding(crate::specs::RpcPackets::response_frame))]
+#[tactic(auto, using(crate::proofs::Packets::Members::response_readable, crate::proofs::Packets::Fits::response_fits, crate::proofs::Packets::Lengths::response_frame_short), unfolding(crate::specs::RpcPackets::response_frame))]
 pub fn read_response(
     alloc: Global,
     members: &[Member],
