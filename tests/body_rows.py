@@ -13,8 +13,9 @@ import random
 
 from rows.body_maker import changed, some_fields, some_value
 from rows.body_reader import Body, Malformed, Refused, members_of
-from rows.nested_bodies import MAPS, STRUCTS, VECTORS
+from rows.nested_bodies import MAPS, VECTORS
 from rows.single_bodies import SIGNED, TEXTS, UNSIGNED, Family
+from rows.struct_bodies import STRUCTS
 from rows.tables import File, Table, varied
 from rows.value_reader import printed
 
