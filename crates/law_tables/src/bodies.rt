@@ -92,7 +92,10 @@ fn put_body(page: &mut Page, schema: &Schema, members: &[Member], values: &[Valu
 /// Adds what comes of values under members: the bytes that spell them, and the values that are read from these.
 pub fn put_coded(page: &mut Page, members: &[Member], values: &[Value]) {
     let schema = Schema::empty(page.alloc());
-    if tags_rise(members) && defaults_fit(&schema, members) && members_fit(&schema, members, values) {
+    if tags_rise(members)
+        && defaults_fit(&schema, members)
+        && members_fit(&schema, members, values)
+    {
         put_body(page, &schema, members, values);
     } else {
         page.add("no values of the members");

@@ -1,8 +1,8 @@
 //! Worked cases for `tars_base`, `tars_model`, `tars_wire`, `tars_codec`, `tars_decode`, `value_text`, `idl_parse` and
-//! `idl_check`: the files `data/*.rows`
-//! have the cases, a row each, and `stdout` what each of them comes to. What comes of a row was worked by hand from
-//! docs/PROTOCOL.md, docs/IDL.md and docs/SCRIPTS.md; it is printed in the row's place, and comments and empty lines
-//! are printed as they are.
+//! `idl_check`: the files `data/*.rows` have the cases, a row each, and `stdout` what each of them comes to. What comes
+//! of a row was worked by hand from docs/PROTOCOL.md, docs/IDL.md and docs/SCRIPTS.md, or by the readers of
+//! tests/body_rows.py and tests/value_rows.py; it is printed in the row's place, and comments and empty lines are
+//! printed as they are.
 //!
 //! The program takes the names of files. Of a file that is no table it prints whether its bytes are a body
 //! of tagged fields (docs/PROTOCOL.md, "Reading"), so that scanning can be timed.
