@@ -212,6 +212,16 @@ module Parts
 printf 'module Units { const double KG = 1; };' >idl/units.tars
 case_of 'a fault of an included file' 1 'refused idl/units.tars check 7 21' '' check parts.tars
 
+# The values of a struct.
+echo 'module M { struct S { 0 require int a; 1 optional int b = 7; }; };' >s.tars
+printf '( a = 1,\n  b = 7 )\n' >v.txt
+case_of 'a value is encoded' 0 00011007 '' encode s.tars M::S v.txt
+printf '\xff' >bytes.txt
+case_of 'a value that is no text' 1 'refused bytes.txt value 1 0' '' encode s.tars M::S bytes.txt
+echo '00 01' >h.txt
+case_of 'a body is decoded' 0 '(a=1, b=7)' '' decode s.tars M::S h.txt
+case_of 'a folder as body' 3 '' 'read fault' decode s.tars M::S folder
+
 # Standard output.
 : >out
 timeout 60 ./tars_tool plan first.plan >&- 2>err </dev/null
@@ -243,6 +253,8 @@ cp "$top"/examples/* .
 case_of 'examples/shop.tars' 0 "$(shown_for shop.tars)" '' check shop.tars
 case_of 'examples/calc.tars' 0 "$canonical" '' check calc.tars
 case_of 'examples/typo.tars' 1 'refused typo.tars parse 5 50' '' check typo.tars
+case_of 'examples/item.txt' 0 "$(shown_for item.txt)" '' encode shop.tars Shop::Item item.txt
+case_of 'examples/item.hex' 0 "$(shown_for item.hex)" '' decode shop.tars Shop::Item item.hex
 for plan in first late too_large refused typo; do
     shown=$(shown_for "$plan.plan")
     status=0
@@ -281,6 +293,10 @@ timeout 300 unbuilt/tars_tool check shop.tars >out 2>err </dev/null
 echo $? >status
 head -n 1 err >first && mv first err
 judge 'a check before the proof' 0 "$(shown_for shop.tars)" "$note"
+timeout 300 unbuilt/tars_tool encode shop.tars Shop::Item item.txt >out 2>err </dev/null
+echo $? >status
+head -n 1 err >first && mv first err
+judge 'values before the proof' 0 "$(shown_for item.txt)" "$note"
 
 echo "$passed passed, $failed failed"
 [ "$failed" -eq 0 ]

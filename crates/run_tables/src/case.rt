@@ -46,7 +46,7 @@ fn arguments_of(alloc: Global, text: &str) -> Result<Vec<String>, AllocError> {
     Ok(arguments)
 }
 
-fn named(alloc: Global, name: &str, text: &str) -> Result<NamedFile, AllocError> {
+pub fn named(alloc: Global, name: &str, text: &str) -> Result<NamedFile, AllocError> {
     let name = String::from_str(alloc, name)?;
     let bytes = text.as_bytes().to_vec(alloc)?;
     Ok(NamedFile { name, bytes })
@@ -70,12 +70,31 @@ fn sink_of(alloc: Global, failing: u64) -> Result<MemSink, AllocError> {
     Ok(sink)
 }
 
-/// How a run ends, and what it writes.
-pub fn ran(alloc: Global, case: &Case) -> Result<(Status, String), AllocError> {
-    let arguments = arguments_of(alloc, case.arguments)?;
-    let mut files = files_of(alloc, case)?;
-    let mut sink = sink_of(alloc, case.failing_write)?;
+/// How a run with these arguments ends, over these files and a sink of which one write is to fail; and what it writes.
+pub fn ran_over(
+    alloc: Global,
+    arguments: &str,
+    mut files: MemFiles,
+    failing_write: u64,
+) -> Result<(Status, String), AllocError> {
+    let arguments = arguments_of(alloc, arguments)?;
+    let mut sink = sink_of(alloc, failing_write)?;
     let status = run(alloc, &arguments, &mut files, &mut sink);
     let text = str::from_utf8(sink.bytes()).unwrap_or("no text");
     Ok((status, String::from_str(alloc, text)?))
+}
+
+/// How the run of a case ends, and what it writes.
+pub fn ran(alloc: Global, case: &Case) -> Result<(Status, String), AllocError> {
+    let files = files_of(alloc, case)?;
+    ran_over(alloc, case.arguments, files, case.failing_write)
+}
+
+/// A status, and the text that was written, if there is one.
+pub fn shown(alloc: Global, status: Status, text: &str) -> Result<String, AllocError> {
+    if text.is_empty() {
+        return format!(in alloc; "{status:?}");
+    }
+    let text = text.replace(alloc, "\n", "~n")?;
+    format!(in alloc; "{status:?}: {text}")
 }

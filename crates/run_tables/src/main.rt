@@ -9,6 +9,7 @@ mod case;
 mod check_case;
 mod row_text;
 mod rows;
+mod struct_case;
 mod told;
 
 use rows::outcome_of;

@@ -1,8 +1,9 @@
 //! What comes of a row: a word, and what it is asked of.
 
-use crate::case::{CALC, Case, FIRST, HEADER, ran};
+use crate::case::{CALC, Case, FIRST, HEADER, ran, shown};
 use crate::check_case::{check_files, check_text};
 use crate::row_text::text_of;
+use crate::struct_case::{of_members, of_struct};
 use crate::told::told;
 use std::alloc::{AllocError, Global};
 use tars_base::Status;
@@ -16,15 +17,6 @@ const PLAIN: Case = Case {
     failing_read: 0,
     failing_write: 0,
 };
-
-/// A status, and the text that was written, if there is one.
-fn shown(alloc: Global, status: Status, text: &str) -> Result<String, AllocError> {
-    if text.is_empty() {
-        return format!(in alloc; "{status:?}");
-    }
-    let text = text.replace(alloc, "\n", "~n")?;
-    format!(in alloc; "{status:?}: {text}")
-}
 
 /// What comes of a case.
 fn outcome(alloc: Global, case: &Case) -> Result<String, AllocError> {
@@ -138,6 +130,10 @@ pub fn outcome_of(alloc: Global, row: &str) -> Result<String, AllocError> {
         "events" => events(alloc, text),
         "check" => check_text(alloc, text),
         "files" => check_files(alloc, text),
+        "encode" => of_members(alloc, "encode", text),
+        "decode" => of_members(alloc, "decode", text),
+        "encode-of" => of_struct(alloc, "encode", text),
+        "decode-of" => of_struct(alloc, "decode", text),
         _ => String::from_str(alloc, row),
     }
 }

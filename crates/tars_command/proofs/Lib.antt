@@ -1,4 +1,5 @@
+pub mod StructWords
+pub mod WordLaws
+pub mod Comings
 pub mod DueLaws
 pub mod RunLaws
-pub mod WordLaws
-pub mod OneDue

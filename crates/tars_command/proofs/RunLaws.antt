@@ -1,70 +1,64 @@
 -- How a run ends and what it writes, by what is due.
 use Rattle.std.proofs.Common.{◌≡◌, ◌≢◌, ℕ, inl, inr, List, Option, refl, sym, subst}
-use Rattle.std.specs.Prelude.{Ok}
+use Rattle.std.specs.Prelude.{Ok, Err}
 use Rattle.std.specs.declared.vec.Vec.{Vec}
+use Rattle.schema_files.specs.declared.load_fault.LoadFault.TheVariants as faults
 use Rattle.schema_files.proofs.CallerLemmas.{any_held}
 use Rattle.tars_base.specs.Contents.{Contents, Held, IsHeld, HoldsOnly}
 use Rattle.tars_base.specs.declared.status.Status.{Status}
 use Rattle.tars_base.specs.declared.status.Status.TheVariants.{Done, Refused, Usage, ReadFault, WriteFault, Memory}
-use Rattle.tars_command.specs.Due.{DueAnswer, usage, refused, unread, done, Due, no_form, check_unread, check_refused, check_done, plan_unread, plan_refused, plan_done}
+use Rattle.tars_command.specs.Due.{DueAnswer, usage, refused, unread, done, Due}
 use Rattle.tars_command.specs.RunSteps.{EndsWith}
 use Rattle.tars_command.specs.Runs.{WritesDue, EndsAsDue, MayEnd}
 use Rattle.tars_command.specs.WordSteps.{Asked, AreAsked}
 use Rattle.tars_command.specs.Words.{AreNoForm}
-use Rattle.tars_command.proofs.DueLaws.{ForDue}
+use Rattle.tars_command.proofs.Comings.{ForAsked, no_usage}
+use Rattle.tars_command.proofs.DueLaws.{Row, no_row, row, row_of, only_due, only_usage}
 use Rattle.tars_command.proofs.WordLaws.{not_none}
+
+-- an end that one answer may have, when nothing else is due
+only_ends : (held : Held) (words : List (List ℕ)) (answer : DueAnswer) (status : Status) → HoldsOnly (Due held words) answer → MayEnd answer status → EndsAsDue held words status
+only_ends held words answer status one may = λ other given. subst (λ (a : DueAnswer). MayEnd a status) (sym (one.only other given)) may
 
 module _ (told : Option Contents) (words : List (List ℕ)) (old new : Option (List ℕ)) where
   abbrev pub ForRun : Status → Type 0
   ForRun status = (held : Held) × IsHeld told held × WritesDue held words old new status × EndsAsDue held words status
 
-  -- an end that one answer may have, when nothing else is due
-  only_ends : (held : Held) (answer : DueAnswer) (status : Status) → HoldsOnly (Due held words) answer → MayEnd answer status → EndsAsDue held words status
-  only_ends held answer status one may = λ other due. subst (λ (a : DueAnswer). MayEnd a status) (sym (one.only other due)) may
-
   ended : (held : Held) (status end : Status) → IsHeld told held → status ≡ end → WritesDue held words old new end → EndsAsDue held words end → ForRun status
   ended held status end told_so is writes ends = subst ForRun (sym is) (held, told_so, writes, ends)
 
-  pub run_done : {A : Type 0} (text : Vec ℕ A) (status : Status) → ForDue told words (Ok text) → EndsWith old new text.items Done status → ForRun status
-  run_done text status due (inl all) = ended due.0 status Done due.1 all.0 (text.items, due.2.holds, all.1) (only_ends due.0 (done text.items) Done due.2 tt)
-  run_done text status due (inr prefix) = ended due.0 status WriteFault due.1 prefix.0 (text.items, inl due.2.holds, prefix.1) (only_ends due.0 (done text.items) WriteFault due.2 tt)
+  module _ (x : Asked) (ask : AreAsked words x) where
+    pub run_done : (A : Type 0) (text : Vec ℕ A) (status : Status) → ForAsked A told x (Ok text) → EndsWith old new text.items Done status → ForRun status
+    run_done A text status given (inl all) =
+        let one = only_due given.0 words x (done text.items) ask given.2 in
+        ended given.0 status Done given.1 all.0 (text.items, one.holds, all.1) (only_ends given.0 words (done text.items) Done one tt)
+    run_done A text status given (inr prefix) =
+        let one = only_due given.0 words x (done text.items) ask given.2 in
+        ended given.0 status WriteFault given.1 prefix.0 (text.items, inl one.holds, prefix.1) (only_ends given.0 words (done text.items) WriteFault one tt)
 
-  pub run_refused : (line : List ℕ) (status : Status) → (held : Held) × IsHeld told held × HoldsOnly (Due held words) (refused line) → EndsWith old new line Refused status → ForRun status
-  run_refused line status due (inl all) = ended due.0 status Refused due.1 all.0 (line, due.2.holds, all.1) (only_ends due.0 (refused line) Refused due.2 tt)
-  run_refused line status due (inr prefix) = ended due.0 status WriteFault due.1 prefix.0 (line, inr due.2.holds, prefix.1) (only_ends due.0 (refused line) WriteFault due.2 tt)
+    pub run_refused : (A : Type 0) (line : List ℕ) (status : Status) → ForAsked A told x (Err (faults.Refused line)) → EndsWith old new line Refused status → ForRun status
+    run_refused A line status given (inl all) =
+        let one = only_due given.0 words x (refused line) ask given.2 in
+        ended given.0 status Refused given.1 all.0 (line, one.holds, all.1) (only_ends given.0 words (refused line) Refused one tt)
+    run_refused A line status given (inr prefix) =
+        let one = only_due given.0 words x (refused line) ask given.2 in
+        ended given.0 status WriteFault given.1 prefix.0 (line, inr one.holds, prefix.1) (only_ends given.0 words (refused line) WriteFault one tt)
 
 -- a run that writes nothing
 module _ (told : Option Contents) (words : List (List ℕ)) where
   abbrev ForEnd : Status → Type 0
   ForEnd status = (held : Held) × IsHeld told held × Unit {0} × EndsAsDue held words status
 
-  no_form_ends : (held : Held) → AreNoForm words → EndsAsDue held words Usage
-  no_form_ends held none = by_row
-    where
-      by_row : (answer : DueAnswer) → Due held words answer → MayEnd answer Usage
-      by_row answer (no_form also) = tt
-      by_row answer (check_unread file name ask given) = (none file).0 ask
-      by_row answer (check_refused file line ask given) = (none file).0 ask
-      by_row answer (check_done file d ask given) = (none file).0 ask
-      by_row answer (plan_unread script name ask given) = (none script).1 ask
-      by_row answer (plan_refused script line ask given) = (none script).1 ask
-      by_row answer (plan_done script l ask given) = (none script).1 ask
-
   pub run_usage : AreNoForm words → ForEnd Usage
-  run_usage none = let any = any_held told in (any.0, any.1, tt, no_form_ends any.0 none)
+  run_usage none = let any = any_held told in (any.0, any.1, tt, only_ends any.0 words usage Usage (only_usage any.0 words none) tt)
 
-  not_usage : (held : Held) (x : Asked) → AreAsked words x → (answer : DueAnswer) → Due held words answer → answer ≢ usage
-  not_usage held x ask answer (no_form none) = absurd (not_none words x ask none)
-  not_usage held x ask answer (check_unread file name asked given) = λ e. cc
-  not_usage held x ask answer (check_refused file line asked given) = λ e. cc
-  not_usage held x ask answer (check_done file d asked given) = λ e. cc
-  not_usage held x ask answer (plan_unread script name asked given) = λ e. cc
-  not_usage held x ask answer (plan_refused script line asked given) = λ e. cc
-  not_usage held x ask answer (plan_done script l asked given) = λ e. cc
+  not_usage : (held : Held) (x : Asked) → AreAsked words x → (answer : DueAnswer) → Row held words answer → answer ≢ usage
+  not_usage held x ask answer (no_row none) = absurd (not_none words x ask none)
+  not_usage held x ask answer (row y also given) = no_usage held y answer given
 
   -- a failed read and want of memory come only where the words are a command
   pub run_unread : (x : Asked) → AreAsked words x → ForEnd ReadFault
-  run_unread x ask = let any = any_held told in (any.0, any.1, tt, λ answer due. may_end answer (not_usage any.0 x ask answer due))
+  run_unread x ask = let any = any_held told in (any.0, any.1, tt, λ answer given. may_end answer (not_usage any.0 x ask answer (row_of any.0 words answer given)))
     where
       may_end : (answer : DueAnswer) → answer ≢ usage → MayEnd answer ReadFault
       may_end usage other = absurd (other refl)
@@ -73,7 +67,7 @@ module _ (told : Option Contents) (words : List (List ℕ)) where
       may_end (done text) other = tt
 
   pub run_short : (x : Asked) → AreAsked words x → ForEnd Memory
-  run_short x ask = let any = any_held told in (any.0, any.1, tt, λ answer due. may_end answer (not_usage any.0 x ask answer due))
+  run_short x ask = let any = any_held told in (any.0, any.1, tt, λ answer given. may_end answer (not_usage any.0 x ask answer (row_of any.0 words answer given)))
     where
       may_end : (answer : DueAnswer) → answer ≢ usage → MayEnd answer Memory
       may_end usage other = absurd (other refl)

@@ -1,30 +1,24 @@
 -- What is found in the words is what they ask for, and they ask for one thing.
-use Rattle.std.proofs.Common.{◌≡◌, ◌⊎◌, inl, inr, ℕ, Bool, true, false, List, [], ◌∷◌, length, map, Option, Some, None, refl, sym, ap, subst, ◌∙◌, codes, arith}
+use Rattle.std.proofs.Common.{◌≡◌, ◌⊎◌, inl, inr, ℕ, Bool, true, false, ◌&&◌, if◌then◌else◌, List, [], ◌∷◌, ◌++◌, map, Option, Some, None, refl, sym, ap, subst, ◌∙◌, codes}
 use Rattle.std.specs.Prelude.{MatchOption}
 use Rattle.std.specs.Option.{option_map}
 use Rattle.std.specs.Str.{bytes_eq}
-use Rattle.std.proofs.lemmas.List.{map-id}
+use Rattle.std.proofs.lemmas.Bool.{and_parts}
 use Rattle.std.proofs.lemmas.Slice.Eq.{bytes_eq-Decides}
-use Rattle.facts.proofs.OptionLaws.{some_is, chosen}
-use Rattle.tars_command.specs.Words.{AskFor, AskForCheck, AskForPlan, AreNoForm, is_word}
-use Rattle.tars_command.specs.WordSteps.{Asked, check, plan, asked_of, asked_in, AreAsked}
+use Rattle.facts.specs.OptionSteps.{◌>>=◌}
+use Rattle.facts.proofs.OptionLaws.{some_is, chosen, bind_some}
+use Rattle.tars_command.specs.Words.{AskFor, AskOn, AreNoForm, NamesStruct, is_word}
+use Rattle.tars_command.specs.WordSteps.{Asked, check, plan, encode, decode, struct_of, asked_of, asked_on, asked_in, AreAsked}
+use Rattle.tars_command.proofs.StructWords.{struct_found, struct_is}
 
--- ---- what a command asks for
+-- a word, as its bytes
+abbrev own : List ℕ → List ℕ
+own word = word
 
-of_sound : (command file : List ℕ) (x : Asked) → asked_of command file ≡ Some x → is_word file ≡ true → AreAsked (command ∷ file ∷ []) x
-unfolding asked_of
-of_sound command file x e word = by_check (bytes_eq command (codes "check")) refl
-  where
-    asks : (own : List ℕ) → bytes_eq command own ≡ true → AskFor own (command ∷ file ∷ []) file
-    asks own is = record { form = ap (λ (c : List ℕ). c ∷ file ∷ []) ((bytes_eq-Decides command own).0 is); word = word }
+abbrev Found : List (List ℕ) → Option Asked
+Found words = asked_in own words
 
-    by_plan : (b : Bool) → bytes_eq command (codes "plan") ≡ b → bytes_eq command (codes "check") ≡ false → AreAsked (command ∷ file ∷ []) x
-    by_plan true is other = subst (AreAsked (command ∷ file ∷ [])) (some_is (plan file) x (rw (other, is) at e)) (asks (codes "plan") is)
-    by_plan false is other = absurd (let none : None ≡ Some x = rw (other, is) at e in cc)
-
-    by_check : (b : Bool) → bytes_eq command (codes "check") ≡ b → AreAsked (command ∷ file ∷ []) x
-    by_check true is = subst (AreAsked (command ∷ file ∷ [])) (some_is (check file) x (rw is at e)) (asks (codes "check") is)
-    by_check false other = by_plan (bytes_eq command (codes "plan")) refl other
+-- ---- what is asked for is found
 
 of_check : (file : List ℕ) → asked_of (codes "check") file ≡ Some (check file)
 unfolding asked_of
@@ -34,65 +28,110 @@ of_plan : (file : List ℕ) → asked_of (codes "plan") file ≡ Some (plan file
 unfolding asked_of
 of_plan file = refl
 
--- ---- what words ask for
+on_encode : (file : List ℕ) (of : List ℕ × List ℕ) (values : List ℕ) → asked_on (codes "encode") file of values ≡ Some (encode file of.0 of.1 values)
+unfolding asked_on
+on_encode file of values = refl
 
-pub in_sound : {X : Type 0} (bytes : X → List ℕ) (words : List X) (x : Asked) → asked_in bytes words ≡ Some x → AreAsked (map bytes words) x
-in_sound bytes [] x e = absurd cc
-in_sound bytes (a ∷ []) x e = absurd cc
-in_sound bytes (a ∷ b ∷ []) x e =
-    let c = chosen (is_word (bytes b)) (asked_of (bytes a) (bytes b)) x e in
-    of_sound (bytes a) (bytes b) x c.1 c.0
-in_sound bytes (a ∷ b ∷ d ∷ more) x e = absurd cc
+on_decode : (file : List ℕ) (of : List ℕ × List ℕ) (values : List ℕ) → asked_on (codes "decode") file of values ≡ Some (decode file of.0 of.1 values)
+unfolding asked_on
+on_decode file of values = refl
 
-some_in : {X : Type 0} (bytes : X → List ℕ) (a b : X) (own name : List ℕ) (x : Asked) → AskFor own (bytes a ∷ bytes b ∷ []) name → asked_of own name ≡ Some x → asked_in bytes (a ∷ b ∷ []) ≡ None → ⊥
-some_in bytes a b own name x ask is e =
-    let form = ask.form in
-    let command : bytes a ≡ own = cc in
-    let same : bytes b ≡ name = cc in
-    let word : is_word (bytes b) ≡ true = ap is_word same ∙ ask.word in
-    let found : asked_of (bytes a) (bytes b) ≡ Some x = rw (command, same) is in
-    let some : Some x ≡ None = rw (word, found) at e in
-    cc
+for_found : (command : List ℕ) (words : List (List ℕ)) (file : List ℕ) (x : Asked) → AskFor command words file → asked_of command file ≡ Some x → Found words ≡ Some x
+for_found command words file x ask is = ap Found ask.form ∙ rw ask.word is
 
-pub in_complete : {X : Type 0} (bytes : X → List ℕ) (words : List X) → asked_in bytes words ≡ None → AreNoForm (map bytes words)
-in_complete bytes [] e = λ name. ((λ ask. let form = ask.form in absurd cc), (λ ask. let form = ask.form in absurd cc))
-in_complete bytes (a ∷ []) e = λ name. ((λ ask. let form = ask.form in absurd cc), (λ ask. let form = ask.form in absurd cc))
-in_complete bytes (a ∷ b ∷ []) e = λ name.
-    ((λ ask. some_in bytes a b (codes "check") name (check name) ask (of_check name) e), (λ ask. some_in bytes a b (codes "plan") name (plan name) ask (of_plan name) e))
-in_complete bytes (a ∷ b ∷ d ∷ more) e = λ name. ((λ ask. let form = ask.form in absurd cc), (λ ask. let form = ask.form in absurd cc))
+on_found : (command : List ℕ) (words : List (List ℕ)) (file home name values : List ℕ) (x : Asked) → AskOn command words file home name values → asked_on command file (home, name) values ≡ Some x → Found words ≡ Some x
+on_found command words file home name values x ask is =
+    ap Found ask.form ∙ rw (ask.file_is, ask.values_is) (ap (λ (o : Option (List ℕ × List ℕ)). o >>= λ of. asked_on command file of values) (struct_found ask.struct home name ask.struct_is) ∙ is)
+
+found : (words : List (List ℕ)) (x : Asked) → AreAsked words x → Found words ≡ Some x
+found words (check file) ask = for_found (codes "check") words file (check file) ask (of_check file)
+found words (plan script) ask = for_found (codes "plan") words script (plan script) ask (of_plan script)
+found words (encode file home name values) ask = on_found (codes "encode") words file home name values (encode file home name values) ask (on_encode file (home, name) values)
+found words (decode file home name hex) ask = on_found (codes "decode") words file home name hex (decode file home name hex) ask (on_decode file (home, name) hex)
+
+-- they ask for one thing
+pub one_asked : (words : List (List ℕ)) (x y : Asked) → AreAsked words x → AreAsked words y → x ≡ y
+one_asked words x y first second = some_is x y (sym (found words x first) ∙ found words y second)
+
+-- ---- what is found is asked for
+
+-- one of two commands, by a test of each
+by_command : (command one two : List ℕ) (a b x : Asked) (P : Asked → Type 0) → (if bytes_eq command one then Some a else (if bytes_eq command two then Some b else None)) ≡ Some x → (command ≡ one → P a) → (command ≡ two → P b) → P x
+by_command command one two a b x P e first second = by_one (bytes_eq command one) refl
+  where
+    by_two : (t : Bool) → bytes_eq command two ≡ t → (if t then Some b else None) ≡ Some x → P x
+    by_two true is e = subst P (some_is b x e) (second ((bytes_eq-Decides command two).0 is))
+    by_two false is e = absurd cc
+
+    by_one : (t : Bool) → bytes_eq command one ≡ t → P x
+    by_one true is = subst P (some_is a x (rw is at e)) (first ((bytes_eq-Decides command one).0 is))
+    by_one false is = by_two (bytes_eq command two) refl (rw is at e)
+
+of_asked : (command file : List ℕ) (x : Asked) → asked_of command file ≡ Some x → is_word file ≡ true → AreAsked (command ∷ file ∷ []) x
+unfolding asked_of
+of_asked command file x e word =
+    let asks : (own : List ℕ) → command ≡ own → AskFor own (command ∷ file ∷ []) file = λ own is. record { form = ap (λ (c : List ℕ). c ∷ file ∷ []) is; word = word } in
+    by_command command (codes "check") (codes "plan") (check file) (plan file) x (AreAsked (command ∷ file ∷ [])) e (asks (codes "check")) (asks (codes "plan"))
+
+on_asked : (command file struct values : List ℕ) (of : List ℕ × List ℕ) (x : Asked) → asked_on command file of values ≡ Some x → is_word file ≡ true → is_word values ≡ true → NamesStruct struct of.0 of.1 → AreAsked (command ∷ file ∷ struct ∷ values ∷ []) x
+unfolding asked_on
+on_asked command file struct values of x e file_is values_is names =
+    let asks : (own : List ℕ) → command ≡ own → AskOn own (command ∷ file ∷ struct ∷ values ∷ []) file of.0 of.1 values =
+    λ own is. record { struct = struct; form = ap (λ (c : List ℕ). c ∷ file ∷ struct ∷ values ∷ []) is; file_is = file_is; struct_is = names; values_is = values_is } in
+    by_command command (codes "encode") (codes "decode") (encode file of.0 of.1 values) (decode file of.0 of.1 values) x (AreAsked (command ∷ file ∷ struct ∷ values ∷ [])) e (asks (codes "encode")) (asks (codes "decode"))
+
+asked : (words : List (List ℕ)) (x : Asked) → Found words ≡ Some x → AreAsked words x
+asked [] x e = absurd cc
+asked (a ∷ []) x e = absurd cc
+asked (command ∷ file ∷ []) x e = let c = chosen (is_word file) (asked_of command file) x e in of_asked command file x c.1 c.0
+asked (a ∷ b ∷ d ∷ []) x e = absurd cc
+asked (command ∷ file ∷ struct ∷ values ∷ []) x e =
+    let c = chosen (is_word file && is_word values) (struct_of struct >>= λ of. asked_on command file of values) x e in
+    let words = and_parts (is_word file) (is_word values) c.0 in
+    let of = bind_some (struct_of struct) (λ of. asked_on command file of values) x c.1 in
+    on_asked command file struct values of.0 x of.2 words.0 words.1 (struct_is struct of.0 of.1)
+asked (a ∷ b ∷ d ∷ e ∷ f ∷ more) x is = absurd cc
+
+not_asked : (words : List (List ℕ)) → Found words ≡ None → (x : Asked) → AreAsked words x → ⊥
+not_asked words none x ask = let no : Some x ≡ None = sym (found words x ask) ∙ none in cc
+
+pub no_form_is : (words : List (List ℕ)) → ((x : Asked) → AreAsked words x → ⊥) → AreNoForm words
+no_form_is words none =
+    record {
+      no_check = λ file. none (check file);
+      no_plan = λ script. none (plan script);
+      no_encode = λ file home name values. none (encode file home name values);
+      no_decode = λ file home name hex. none (decode file home name hex);
+    }
+
+pub not_none : (words : List (List ℕ)) (x : Asked) → AreAsked words x → AreNoForm words → ⊥
+not_none words (check file) ask none = none.no_check file ask
+not_none words (plan script) ask none = none.no_plan script ask
+not_none words (encode file home name values) ask none = none.no_encode file home name values ask
+not_none words (decode file home name hex) ask none = none.no_decode file home name hex ask
+
+-- ---- words of any kind, seen by their bytes
+
+mapped : {X : Type 0} (bytes : X → List ℕ) (words : List X) → asked_in bytes words ≡ Found (map bytes words)
+mapped bytes [] = refl
+mapped bytes (a ∷ []) = refl
+mapped bytes (a ∷ b ∷ []) = refl
+mapped bytes (a ∷ b ∷ c ∷ []) = refl
+mapped bytes (a ∷ b ∷ c ∷ d ∷ []) = refl
+mapped bytes (a ∷ b ∷ c ∷ d ∷ e ∷ more) = refl
 
 pub request_is : {X Y : Type 0} (bytes : X → List ℕ) (view : Y → Asked) (words : List X) (result : Option Y) → option_map view result ≡ asked_in bytes words
     → MatchOption result (AreNoForm (map bytes words)) (λ request. AreAsked (map bytes words) (view request))
-request_is bytes view words None is = in_complete bytes words (sym is)
-request_is bytes view words (Some request) is = in_sound bytes words (view request) (sym is)
-
--- a word, as its bytes
-abbrev own : List ℕ → List ℕ
-own word = word
+request_is bytes view words None is = no_form_is (map bytes words) (not_asked (map bytes words) (sym (mapped bytes words) ∙ sym is))
+request_is bytes view words (Some request) is = asked (map bytes words) (view request) (sym (mapped bytes words) ∙ sym is)
 
 -- words ask for something, or are no form of a command
 abbrev pub Either : List (List ℕ) → Type 0
 Either words = ((x : Asked) × AreAsked words x) ⊎ AreNoForm words
 
 pub asked_or_no_form : (words : List (List ℕ)) → Either words
-asked_or_no_form words = subst Either (map-id words) (by_asked (asked_in own words) refl)
+asked_or_no_form words = by_found (Found words) refl
   where
-    by_asked : (o : Option Asked) → asked_in own words ≡ o → Either (map own words)
-    by_asked (Some x) e = inl (x, in_sound own words x e)
-    by_asked None e = inr (in_complete own words e)
-
--- ---- one thing
-
-pub same_file : (command : List ℕ) (words : List (List ℕ)) (a b : List ℕ) → AskFor command words a → AskFor command words b → b ≡ a
-same_file command words a b first second = let same : command ∷ b ∷ [] ≡ command ∷ a ∷ [] = sym second.form ∙ first.form in cc
-
-pub not_both : (words : List (List ℕ)) (a b : List ℕ) → AskForCheck words a → AskForPlan words b → ⊥
-not_both words a b first second =
-    let same : codes "check" ∷ a ∷ [] ≡ codes "plan" ∷ b ∷ [] = sym first.form ∙ second.form in
-    let command : codes "check" ≡ codes "plan" = cc in
-    let long : 5 ≡ 4 = ap (λ (w : List ℕ). length w) command in
-    omega (arith, long)
-
-pub not_none : (words : List (List ℕ)) (x : Asked) → AreAsked words x → AreNoForm words → ⊥
-not_none words (check file) ask none = (none file).0 ask
-not_none words (plan script) ask none = (none script).1 ask
+    by_found : (o : Option Asked) → Found words ≡ o → Either words
+    by_found (Some x) e = inl (x, asked words x e)
+    by_found None e = inr (no_form_is words (not_asked words e))

@@ -3,14 +3,17 @@ use Rattle.std.specs.Prelude.{ℕ, List}
 use Rattle.canonical_text.specs.Canonical.{canonical}
 use Rattle.report_lines.specs.ReportText.{report_text_of}
 use Rattle.schema_files.specs.SchemaLoading as schema
-use Rattle.schema_files.specs.SchemaLoading.{LoadsSchema}
+use Rattle.schema_files.specs.SchemaLoading.{SchemaAnswer, LoadsSchema}
 use Rattle.session.specs.Loading as load
-use Rattle.session.specs.Loading.{Loads}
+use Rattle.session.specs.Loading.{LoadAnswer, Loads}
 use Rattle.session.specs.Planned.{planned}
-use Rattle.session_model.specs.declared.loaded.Loaded.{Loaded}
+use Rattle.struct_files.specs.Answers as text
+use Rattle.struct_files.specs.Answers.{TextAnswer}
+use Rattle.struct_files.specs.Decoding.{DecodesFile}
+use Rattle.struct_files.specs.Encoding.{EncodesFile}
+use Rattle.schema_kept.specs.Written.{HoldBytes}
 use Rattle.tars_base.specs.Contents.{Held}
-use Rattle.tars_command.specs.Words.{AskForCheck, AskForPlan, AreNoForm}
-use Rattle.tars_model.specs.Declarations.{Declared}
+use Rattle.tars_command.specs.Words.{AskForCheck, AskForPlan, AskForEncode, AskForDecode, AreNoForm}
 
 -- nothing but that the words are no command; a refusal line; a file that is needed and not there; all
 -- that is printed
@@ -20,25 +23,41 @@ pub data DueAnswer : Type 0 where
   unread : List ℕ → DueAnswer
   done : List ℕ → DueAnswer
 
--- The words should be answered so. What an interface file gives is said by `LoadsSchema`, and its schema is printed; what
--- a script gives is said by `Loads`, and the report of its session is printed.
+-- of an interface file that is loaded the schema is printed
+abbrev pub due_of_schema : SchemaAnswer → DueAnswer
+due_of_schema (schema.declared d) = done (canonical d)
+due_of_schema (schema.refused line) = refused line
+due_of_schema (schema.unread name) = unread name
+
+-- of a script that is loaded the report of its session
+abbrev pub due_of_script : LoadAnswer → DueAnswer
+due_of_script (load.loaded l) = done (report_text_of l (planned l))
+due_of_script (load.refused line) = refused line
+due_of_script (load.unread name) = unread name
+
+-- of a struct's values a line
+abbrev pub due_of_text : TextAnswer → DueAnswer
+due_of_text (text.done line) = done line
+due_of_text (text.refused line) = refused line
+due_of_text (text.unread name) = unread name
+
+-- The words should be answered so. What an interface file gives is said by `LoadsSchema`, what a script gives by `Loads`,
+-- what the values of a struct give by `EncodesFile` and `DecodesFile`.
 pub data Due (held : Held) (words : List (List ℕ)) : DueAnswer → Type 0 where
   no_form : AreNoForm words → Due held words usage
-  check_unread :
-      (file name : List ℕ) → AskForCheck words file → LoadsSchema (held 0) file (schema.unread name)
-      → Due held words (unread name)
-  check_refused :
-      (file line : List ℕ) → AskForCheck words file → LoadsSchema (held 0) file (schema.refused line)
-      → Due held words (refused line)
-  check_done :
-      (file : List ℕ) (d : Declared) → AskForCheck words file → LoadsSchema (held 0) file (schema.declared d)
-      → Due held words (done (canonical d))
-  plan_unread :
-      (script name : List ℕ) → AskForPlan words script → Loads held script (load.unread name)
-      → Due held words (unread name)
-  plan_refused :
-      (script line : List ℕ) → AskForPlan words script → Loads held script (load.refused line)
-      → Due held words (refused line)
-  plan_done :
-      (script : List ℕ) (l : Loaded) → AskForPlan words script → Loads held script (load.loaded l)
-      → Due held words (done (report_text_of l (planned l)))
+  check :
+      (file : List ℕ) (answer : SchemaAnswer) → AskForCheck words file → LoadsSchema (held 0) file answer
+      → Due held words (due_of_schema answer)
+  plan :
+      (script : List ℕ) (answer : LoadAnswer) → AskForPlan words script → Loads held script answer
+      → Due held words (due_of_script answer)
+  encode :
+      (file home name values : List ℕ) (answer : TextAnswer) → AskForEncode words file home name values
+      → EncodesFile held file home name values answer → Due held words (due_of_text answer)
+  decode :
+      (file home name hex : List ℕ) (answer : TextAnswer) → AskForDecode words file home name hex
+      → DecodesFile held file home name hex answer → Due held words (due_of_text answer)
+
+-- where `encode` is asked for, the files hold bytes when its interface file is read
+abbrev pub AskedOfBytes : Held → List (List ℕ) → Type 0
+AskedOfBytes held words = (file home name values : List ℕ) → AskForEncode words file home name values → HoldBytes (held 0)

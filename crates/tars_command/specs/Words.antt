@@ -1,5 +1,6 @@
 -- The words of the command line (docs/SCRIPTS.md, "Commands").
-use Rattle.std.specs.Prelude.{◌≡◌, ℕ, Bool, true, false, ◌==◌, not, List, [], ◌∷◌, Option, Some, codes}
+use Rattle.std.specs.Prelude.{◌≡◌, ℕ, Bool, true, false, ◌==◌, not, List, [], ◌∷◌, ◌++◌, Option, Some, codes}
+use Rattle.idl_parse.specs.Forms.{IsWord}
 use Rattle.tars_base.specs.Status.{message_of}
 use Rattle.tars_base.specs.declared.status.Status.{Status}
 use Rattle.tars_base.specs.declared.status.Status.TheVariants.{Usage}
@@ -22,9 +23,34 @@ AskForCheck words file = AskFor (codes "check") words file
 abbrev pub AskForPlan : List (List ℕ) → List ℕ → Type 0
 AskForPlan words script = AskFor (codes "plan") words script
 
+-- `MODULE::NAME`, each an identifier or a keyword
+pub record NamesStruct (word home name : List ℕ) : Type 0 where
+  pub text : word ≡ home ++ (codes "::" ++ name)
+  pub home_is : IsWord home
+  pub name_is : IsWord name
+
+-- a command, the name of an interface file, a struct, and the name of a file with its values
+pub record AskOn (command : List ℕ) (words : List (List ℕ)) (file home name values : List ℕ) : Type 0 where
+  pub struct : List ℕ
+  pub form : words ≡ command ∷ file ∷ struct ∷ values ∷ []
+  pub file_is : is_word file ≡ true
+  pub struct_is : NamesStruct struct home name
+  pub values_is : is_word values ≡ true
+
+-- `encode FILE STRUCT VALUES`
+abbrev pub AskForEncode : List (List ℕ) → List ℕ → List ℕ → List ℕ → List ℕ → Type 0
+AskForEncode words file home name values = AskOn (codes "encode") words file home name values
+
+-- `decode FILE STRUCT HEX`
+abbrev pub AskForDecode : List (List ℕ) → List ℕ → List ℕ → List ℕ → List ℕ → Type 0
+AskForDecode words file home name hex = AskOn (codes "decode") words file home name hex
+
 -- the words are no form of a command
-abbrev pub AreNoForm : List (List ℕ) → Type 0
-AreNoForm words = (name : List ℕ) → (¬ AskForCheck words name) × (¬ AskForPlan words name)
+pub record AreNoForm (words : List (List ℕ)) : Type 0 where
+  pub no_check : (file : List ℕ) → ¬ AskForCheck words file
+  pub no_plan : (script : List ℕ) → ¬ AskForPlan words script
+  pub no_encode : (file home name values : List ℕ) → ¬ AskForEncode words file home name values
+  pub no_decode : (file home name hex : List ℕ) → ¬ AskForDecode words file home name hex
 
 -- the line on standard error at the end of a run, without its end
 abbrev pub error_line_of : Status → Option (List ℕ)

@@ -6,22 +6,22 @@ ghost use Rattle.session.specs.Planned.{planned};
 ghost use Rattle.report_lines.specs.ReportText.{report_text_of};
 ghost use Rattle.tars_base.specs.Causes.{HasCauseOf, Rose};
 ghost use Rattle.tars_base.specs.Contents.{Held, IsHeld};
-ghost use Rattle.tars_command.specs.Words.{AskForCheck, AskForPlan, AreNoForm};
-ghost use Rattle.tars_command.specs.WordSteps.{asked_by, AreAsked};
+ghost use Rattle.tars_command.specs.Words.{AreNoForm};
+ghost use Rattle.tars_command.specs.WordSteps.{check, plan, asked_by};
 ghost use Rattle.tars_command.specs.Runs.{WritesDue, EndsAsDue, KeepsQuiet};
-ghost use Rattle.tars_command.specs.RunSteps.{IsDueAnswered, EndsWith};
+ghost use Rattle.tars_command.specs.RunSteps.{IsComing, EndsWith};
 
-use crate::words::{Request, request_of};
+use crate::words::{OnStruct, Request, request_of};
 use idl_check::print;
 use schema_files::{LoadFault, load_schema};
 use session::{Loaded, Mode, load, report_text, run_plan};
 use std::alloc::{AllocError, Global};
+use struct_files::{decode_text, encode_text};
 use tars_base::{Failed, Files, Sink, Status, write_all};
 
 /// What `check FILE` prints.
 fn check_text<F: Files>(alloc: Global, files: &mut F, file: &str) -> Result<Vec<u8>, LoadFault>
-    ensures exact { (words : List (List ℕ)) → AskForCheck words file.now
-        → (held : Held) × IsHeld (F.contents files.old) held × IsDueAnswered held words result }
+    ensures exact { (held : Held) × IsHeld (F.contents files.old) held × IsComing held (check file.now) result }
     ensures same { F.contents files.new ≡ F.contents files.old }
     ensures cause { HasCauseOf LoadFault.Read (F.faults files.old) (F.faults files.new) result }
 {
@@ -40,8 +40,7 @@ fn session_text(alloc: Global, loaded: &Loaded) -> Result<Vec<u8>, AllocError>
 
 /// What `plan SCRIPT` prints.
 fn plan_text<F: Files>(alloc: Global, files: &mut F, script: &str) -> Result<Vec<u8>, LoadFault>
-    ensures exact { (words : List (List ℕ)) → AskForPlan words script.now
-        → (held : Held) × IsHeld (F.contents files.old) held × IsDueAnswered held words result }
+    ensures exact { (held : Held) × IsHeld (F.contents files.old) held × IsComing held (plan script.now) result }
     ensures same { F.contents files.new ≡ F.contents files.old }
     ensures cause { HasCauseOf LoadFault.Read (F.faults files.old) (F.faults files.new) result }
 {
@@ -51,14 +50,19 @@ fn plan_text<F: Files>(alloc: Global, files: &mut F, script: &str) -> Result<Vec
 
 /// What a request prints.
 fn text_of<F: Files>(alloc: Global, files: &mut F, request: Request) -> Result<Vec<u8>, LoadFault>
-    ensures exact { (words : List (List ℕ)) → AreAsked words (asked_by request.entry)
-        → (held : Held) × IsHeld (F.contents files.old) held × IsDueAnswered held words result }
+    ensures exact { (held : Held) × IsHeld (F.contents files.old) held × IsComing held (asked_by request.entry) result }
     ensures same { F.contents files.new ≡ F.contents files.old }
     ensures cause { HasCauseOf LoadFault.Read (F.faults files.old) (F.faults files.new) result }
 {
     match request {
         Request::Check(file) => check_text(alloc, files, file),
         Request::Plan(script) => plan_text(alloc, files, script),
+        Request::Encode(OnStruct { file, of, values }) => {
+            encode_text(alloc, files, file, of, values)
+        }
+        Request::Decode(OnStruct { file, of, values }) => {
+            decode_text(alloc, files, file, of, values)
+        }
     }
 }
 

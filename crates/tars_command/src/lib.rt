@@ -5,6 +5,7 @@
 
 mod command;
 mod laws;
+mod splitting;
 mod words;
 
 pub use command::run;

@@ -1,4 +1,4 @@
-use Rattle.std.proofs.Common.{map, string_bytes}
+use Rattle.std.proofs.Common.{map, string_bytes, Global}
 use Rattle.tars_command.specs.WordSteps.{asked_by}
 use Rattle.tars_command.proofs.RunLaws.{run_usage, run_done, run_refused, run_unread, run_short}
 use Rattle.tars_command.proofs.command.run.Goals as goal
@@ -8,14 +8,12 @@ returns-in_default-clause-due g c = run_usage (g.F.Files.contents c.args.files.n
 
 pub returns-in-Ok-clause-due : goal.returns-in-Ok-clause-due
 returns-in-Ok-clause-due g c =
-    run_done (g.F.Files.contents c.args.files.now) (map string_bytes c.args.words.now) _ _ c.in-Ok.text _
-    (c.in-Ok.ensures.exact (map string_bytes c.args.words.now) c.in-Some.ensures) (rw c.deref.ensures.value at c.end_with.ensures.written)
+    run_done (g.F.Files.contents c.args.files.now) (map string_bytes c.args.words.now) _ _ (asked_by c.in-Some.request) c.in-Some.ensures _ c.in-Ok.text _ c.in-Ok.ensures.exact (rw c.deref.ensures.value at c.end_with.ensures.written)
 
 pub returns-in-Err-Refused-clause-due : goal.returns-in-Err-Refused-clause-due
 returns-in-Err-Refused-clause-due g c =
-    let exact = rw c.in-Err-Refused.field-0-is at c.in-Err-Refused.ensures.exact in
-    run_refused (g.F.Files.contents c.args.files.now) (map string_bytes c.args.words.now) _ _ _ _
-    (exact (map string_bytes c.args.words.now) c.in-Some.ensures) (rw c.as_slice.ensures at c.end_with-in-Err-Refused.ensures.written)
+    run_refused (g.F.Files.contents c.args.files.now) (map string_bytes c.args.words.now) _ _ (asked_by c.in-Some.request) c.in-Some.ensures Global _ _
+    (rw c.in-Err-Refused.field-0-is at c.in-Err-Refused.ensures.exact) (rw c.as_slice.ensures at c.end_with-in-Err-Refused.ensures.written)
 
 pub returns-in-Err-Read-clause-due : goal.returns-in-Err-Read-clause-due
 returns-in-Err-Read-clause-due g c = run_unread (g.F.Files.contents c.args.files.now) (map string_bytes c.args.words.now) (asked_by c.in-Some.request) c.in-Some.ensures

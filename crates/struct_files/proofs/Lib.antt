@@ -1,0 +1,10 @@
+pub mod Schemas
+pub mod StructFits
+pub mod OneOpening
+pub mod OneGiving
+pub mod OneEncoding
+pub mod OneDecoding
+pub mod Coming
+pub mod Opened
+pub mod Answering
+pub mod CallerLemmas

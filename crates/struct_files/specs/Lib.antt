@@ -1,0 +1,5 @@
+pub mod Opening
+pub mod Answers
+pub mod Encoding
+pub mod Decoding
+pub mod Steps
