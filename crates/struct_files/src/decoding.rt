@@ -15,7 +15,6 @@ ghost use Rattle.tars_wire.specs.Heads.{MAX_DEPTH};
 ghost use Rattle.tars_wire.specs.Spelled.{Spelled};
 ghost use Rattle.wire_words.specs.Tree.{WireFields};
 
-use crate::StructName;
 use crate::opening::{Opened, open};
 use hex_text::{HexFault, read_hex};
 use refuse_lines::put_refuse;
@@ -23,7 +22,7 @@ use schema_files::{LoadFault, Stage, TextFault, refused};
 use std::alloc::{AllocError, Global};
 use tars_base::Files;
 use tars_decode::{Refuse, decode};
-use tars_model::{Bytes8, List, Schema, Ty, Value};
+use tars_model::{Bytes8, List, Schema, StructName, Ty, Value};
 use text_buffer::TextBuffer;
 use value_text::print_value;
 

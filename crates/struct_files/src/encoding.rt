@@ -16,14 +16,13 @@ ghost use Rattle.value_text.specs.Faults.{WholeFaultOf};
 ghost use Rattle.value_text.specs.Spelling.{IsWhole};
 ghost use Rattle.value_text.specs.ValueWhy.{number_of};
 
-use crate::StructName;
 use crate::opening::{Opened, open};
 use bytes::BytesMut;
 use schema_files::{LoadFault, Stage, TextFault, refused};
 use std::alloc::{AllocError, Global};
 use tars_base::Files;
 use tars_codec::encode;
-use tars_model::{List, Schema, Ty, Value};
+use tars_model::{List, Schema, StructName, Ty, Value};
 use text_buffer::TextBuffer;
 use value_text::{ValueFault, ValueWhy, read_whole};
 

@@ -11,9 +11,7 @@ mod decoding;
 mod encoding;
 mod laws;
 mod opening;
-mod struct_name;
 
 pub use decoding::decode_text;
 pub use encoding::encode_text;
 pub use laws::{one_decoding, one_encoding};
-pub use struct_name::StructName;

@@ -7,11 +7,10 @@ ghost use Rattle.tars_base.specs.Causes.{HasCauseOf};
 ghost use Rattle.tars_base.specs.Contents.{Held, IsHeld};
 ghost use Rattle.tars_base.specs.Limits.{MAX_FILE as longest};
 
-use crate::StructName;
 use schema_files::{LoadFault, Stage, TextFault, load_schema, read_file, refused};
 use std::alloc::Global;
 use tars_base::Files;
-use tars_model::{Schema, StructDesc};
+use tars_model::{Schema, StructDesc, StructName};
 
 /// What is declared, the number of a struct there, and the text of a file with its values.
 #[derive(Drop)]

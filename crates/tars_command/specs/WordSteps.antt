@@ -5,7 +5,7 @@ use Rattle.std.specs.Str.{bytes_eq}
 use Rattle.facts.specs.OptionSteps.{◌>>=◌}
 use Rattle.idl_parse.specs.Bytes.{begins, is_word_byte}
 use Rattle.idl_parse.specs.LexSteps.{run, after_run}
-use Rattle.struct_files.specs.declared.struct_name.StructName.{StructName}
+use Rattle.tars_model.specs.declared.struct_name.StructName.{StructName}
 use Rattle.tars_command.specs.Words.{is_word, AskForCheck, AskForPlan, AskForEncode, AskForDecode}
 use Rattle.tars_command.specs.declared.words.OnStruct.{OnStruct}
 use Rattle.tars_command.specs.declared.words.Request.{Request}

@@ -6,7 +6,7 @@ ghost use Rattle.tars_command.specs.Words.{AreNoForm, is_word, error_line_of};
 ghost use Rattle.tars_command.specs.WordSteps.{asked_by, named_by, struct_of, asked_of, asked_on, asked_in, AreAsked};
 
 use crate::splitting::split_word;
-use struct_files::StructName;
+use tars_model::StructName;
 use tars_base::Status;
 
 /// Whether a word names something: it is not empty, and no option.

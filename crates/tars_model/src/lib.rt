@@ -17,6 +17,7 @@ mod member;
 mod name;
 mod schema;
 mod struct_desc;
+mod struct_name;
 mod ty;
 mod value;
 
@@ -35,5 +36,6 @@ pub use name::Name;
 pub use schema::Schema;
 pub use sqlite_items::{Boxed, Items as List};
 pub use struct_desc::StructDesc;
+pub use struct_name::StructName;
 pub use ty::Ty;
 pub use value::{Pair, Value};
