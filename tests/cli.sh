@@ -222,6 +222,19 @@ echo '00 01' >h.txt
 case_of 'a body is decoded' 0 '(a=1, b=7)' '' decode s.tars M::S h.txt
 case_of 'a folder as body' 3 '' 'read fault' decode s.tars M::S folder
 
+# Two versions of a struct.
+echo 'module M { struct S { 0 require int a; 1 require int b; }; };' >new.tars
+case_of 'versions that agree' 0 compatible '' compat new.tars s.tars M::S
+echo 'module M { struct S { 0 require short a; 2 require int b; }; };' >new.tars
+case_of 'the first reason why versions do not agree' 0 'incompatible mismatch 0' '' compat s.tars new.tars M::S
+case_of 'a struct that the new version does not declare' 1 'refused calc.tars struct 1 0' '' compat s.tars calc.tars M::S
+case_of 'no new version' 3 '' 'read fault' compat s.tars none.tars M::S
+
+# What asks for help or for a version is no command.
+for words in help --help -h --version -V 'help check' 'check --help' 'check help extra'; do
+    case_of "no command: $words" 2 '' "$usage" $words
+done
+
 # Standard output.
 : >out
 timeout 60 ./tars_tool plan first.plan >&- 2>err </dev/null
@@ -254,6 +267,7 @@ case_of 'examples/shop.tars' 0 "$(shown_for shop.tars)" '' check shop.tars
 case_of 'examples/calc.tars' 0 "$canonical" '' check calc.tars
 case_of 'examples/typo.tars' 1 'refused typo.tars parse 5 50' '' check typo.tars
 case_of 'examples/item.txt' 0 "$(shown_for item.txt)" '' encode shop.tars Shop::Item item.txt
+case_of 'examples/shop_next.tars' 0 "$(shown_for shop_next.tars)" '' compat shop.tars shop_next.tars Shop::Item
 case_of 'examples/item.hex' 0 "$(shown_for item.hex)" '' decode shop.tars Shop::Item item.hex
 for plan in first late too_large refused typo; do
     shown=$(shown_for "$plan.plan")
@@ -297,6 +311,10 @@ timeout 300 unbuilt/tars_tool encode shop.tars Shop::Item item.txt >out 2>err </
 echo $? >status
 head -n 1 err >first && mv first err
 judge 'values before the proof' 0 "$(shown_for item.txt)" "$note"
+timeout 300 unbuilt/tars_tool compat shop.tars shop_next.tars Shop::Item >out 2>err </dev/null
+echo $? >status
+head -n 1 err >first && mv first err
+judge 'versions before the proof' 0 "$(shown_for shop_next.tars)" "$note"
 
 echo "$passed passed, $failed failed"
 [ "$failed" -eq 0 ]

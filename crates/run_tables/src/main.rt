@@ -11,6 +11,7 @@ mod row_text;
 mod rows;
 mod struct_case;
 mod told;
+mod version_case;
 
 use rows::outcome_of;
 use std::{env, fs, io, str};

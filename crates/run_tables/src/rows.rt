@@ -5,6 +5,7 @@ use crate::check_case::{check_files, check_text};
 use crate::row_text::text_of;
 use crate::struct_case::{of_members, of_struct};
 use crate::told::told;
+use crate::version_case::{compare_members, compare_struct};
 use std::alloc::{AllocError, Global};
 use tars_base::Status;
 
@@ -134,6 +135,8 @@ pub fn outcome_of(alloc: Global, row: &str) -> Result<String, AllocError> {
         "decode" => of_members(alloc, "decode", text),
         "encode-of" => of_struct(alloc, "encode", text),
         "decode-of" => of_struct(alloc, "decode", text),
+        "compat" => compare_members(alloc, text),
+        "compat-of" => compare_struct(alloc, text),
         _ => String::from_str(alloc, row),
     }
 }

@@ -17,7 +17,7 @@ fn values_file(command: &str) -> &'static str {
 }
 
 /// `A | B`: two texts. Where there is no B, no space stands after the bar; where there is no bar either, it is absent.
-fn two_files(text: &str) -> (&str, Option<&str>) {
+pub fn two_files(text: &str) -> (&str, Option<&str>) {
     match text.split_once(" |") {
         Some((interface, values)) => (interface, Some(values.strip_prefix(' ').unwrap_or(values))),
         None => (text, None),
@@ -43,6 +43,11 @@ fn outcome(
     shown(alloc, status, &text)
 }
 
+/// An interface file with a struct `M::S` of these members.
+pub fn interface_of(alloc: Global, members: &str) -> Result<String, AllocError> {
+    format!(in alloc; "module M {{ struct S {{ {members} }}; }};")
+}
+
 /// `STRUCT INTERFACE | VALUES`: a command on this struct. Without a bar there is no file with values.
 pub fn of_struct(alloc: Global, command: &str, row: &str) -> Result<String, AllocError> {
     let row = text_of(alloc, row)?;
@@ -55,6 +60,6 @@ pub fn of_struct(alloc: Global, command: &str, row: &str) -> Result<String, Allo
 pub fn of_members(alloc: Global, command: &str, row: &str) -> Result<String, AllocError> {
     let row = text_of(alloc, row)?;
     let (members, values) = two_files(&row);
-    let interface = format!(in alloc; "module M {{ struct S {{ {members} }}; }};")?;
+    let interface = interface_of(alloc, members)?;
     outcome(alloc, command, "M::S", &interface, values)
 }
