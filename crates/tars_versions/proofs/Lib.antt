@@ -3,6 +3,7 @@ pub mod NumberLaws
 pub mod EachKind
 pub mod Said
 pub mod Projection
+pub mod WrittenBytes
 pub mod Merging
 pub mod Lengths
 pub mod Ranges

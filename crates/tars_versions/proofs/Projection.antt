@@ -21,7 +21,7 @@ use Rattle.tars_wire.specs.Spelled.{Spelled}
 use Rattle.tars_decode.specs.Decoding.{Answers}
 use Rattle.tars_decode.specs.declared.refuse.Refuse.{Refuse}
 use Rattle.tars_versions.specs.Decoded.{IsDecoded}
-use Rattle.tars_codec.specs.Written.{written, Writing, bool_number, wire_text, wire_elements, wire_entries, wire_members, wire_list, wire_map, wire_struct, wire_value, wire_entry, fields_of}
+use Rattle.tars_codec.specs.Written.{Writing, bool_number, wire_text, wire_elements, wire_entries, wire_members, wire_list, wire_map, wire_struct, wire_value, wire_entry, fields_of}
 use Rattle.tars_codec.proofs.CallerLemmas.{bool_wire, num_wire, text_wire, blob_wire, list_wire, map_wire, struct_wire}
 use Rattle.tars_codec.proofs.Layers.{wire_entry_out}
 use Rattle.tars_versions.specs.Projected.{Projecting, project_elements, list_under, project_entries, map_under, held, struct_under, projected, projected_entry, project_members}
@@ -170,8 +170,3 @@ reads_projects d ms vs d' ms' fit =
 -- bytes that spell the old fields are decoded to the projection
 pub decoded_projects : (d : Declared) (ms : List Member) (vs : List Value) (d' : Declared) (ms' : List Member) (bytes : List ℕ) (result : Result (List Value) Refuse) → fit_members d ms vs ≡ true → Spelled MAX_DEPTH bytes (fields_of d ms vs) → IsDecoded bytes d' ms' result → Answers result (project_members d ms vs d' ms')
 decoded_projects d ms vs d' ms' bytes result fit spelled decoded = subst (Answers result) (reads_projects d ms vs d' ms' fit) (decoded (fields_of d ms vs) spelled)
-
--- and so are those that were written, where these spell them
-pub written_projects : (d : Declared) (ms : List Member) (vs : List Value) (d' : Declared) (ms' : List Member) (bytes : List ℕ) (result : Result (List Value) Refuse) → fit_members d ms vs ≡ true → bytes ≡ written d ms vs → Spelled MAX_DEPTH (written d ms vs) (fields_of d ms vs) → IsDecoded bytes d' ms' result → Answers result (project_members d ms vs d' ms')
-written_projects d ms vs d' ms' bytes result fit is spelled decoded =
-    decoded_projects d ms vs d' ms' bytes result fit (subst (λ b. Spelled MAX_DEPTH b (fields_of d ms vs)) (sym is) spelled) decoded

@@ -1,6 +1,6 @@
 //! Laws of two versions. The functions do nothing: each is its contract.
 
-ghost use Rattle.std.specs.Prelude.{◌≡◌, true, ℕ, List, Result};
+ghost use Rattle.std.specs.Prelude.{◌≡◌, ◌<◌, true, ℕ, List, Result, All};
 ghost use Rattle.tars_model.specs.Declarations.{Declared};
 ghost use Rattle.tars_model.specs.Values.{fit_members};
 ghost use Rattle.tars_model.specs.declared.member.Member.{Member};
@@ -10,20 +10,22 @@ ghost use Rattle.tars_wire.specs.Spelled.{Spelled};
 ghost use Rattle.tars_decode.specs.Reads.{reads};
 ghost use Rattle.tars_decode.specs.Decoding.{Answers};
 ghost use Rattle.tars_decode.specs.declared.refuse.Refuse.{Refuse};
-ghost use Rattle.tars_codec.specs.Written.{fields_of};
+ghost use Rattle.tars_codec.specs.Written.{fields_of, written};
 ghost use Rattle.tars_model.specs.Schemas.{IsSchema, IsTypeIn};
 ghost use Rattle.tars_model.specs.declared.ty.Ty.{Ty, out-Ty};
-ghost use Rattle.tars_versions.specs.Agreement.{agree_by, agrees};
+ghost use Rattle.tars_versions.specs.Agreement.{agree_by, agrees, IsVersion};
 ghost use Rattle.tars_versions.specs.Decoded.{IsDecoded};
 ghost use Rattle.tars_versions.specs.Projected.{project_members};
 
 /// What a reader of one version takes for the values of another is their projection.
-#[tactic(auto, using(crate::proofs::Projection::reads_projects, crate::proofs::Projection::decoded_projects))]
+#[tactic(auto, using(crate::proofs::Projection::reads_projects, crate::proofs::Projection::decoded_projects, crate::proofs::WrittenBytes::written_projects))]
 pub fn decoding_projects()
     // The fields that are written for old values say the projection under new members.
     ensures reads { (old : Declared) (old_members : List Member) (values : List Value) (new : Declared) (new_members : List Member) → fit_members old old_members values ≡ true → reads new new_members (fields_of old old_members values) ≡ project_members old old_members values new new_members }
     // So bytes that spell these fields are decoded to it.
     ensures decoded { (old : Declared) (old_members : List Member) (values : List Value) (new : Declared) (new_members : List Member) (bytes : List ℕ) (result : Result (List Value) Refuse) → fit_members old old_members values ≡ true → Spelled MAX_DEPTH bytes (fields_of old old_members values) → IsDecoded bytes new new_members result → Answers result (project_members old old_members values new new_members) }
+    // And what `encode` writes for old values is decoded to it.
+    ensures written { (old : Declared) (old_members : List Member) (values : List Value) (new : Declared) (new_members : List Member) (bytes : List ℕ) (result : Result (List Value) Refuse) → IsSchema old → IsVersion old old_members → fit_members old old_members values ≡ true → All (λ byte. byte < 256) bytes → bytes ≡ written old old_members values → IsDecoded bytes new new_members result → Answers result (project_members old old_members values new new_members) }
 {}
 
 /// Agreement follows its rules: how types agree is told by how those inside them do. (`agrees` counts levels; no type of
