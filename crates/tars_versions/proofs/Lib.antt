@@ -11,3 +11,5 @@ pub mod SchemaTypes
 pub mod KeyTypes
 pub mod Accepting
 pub mod Levels
+pub mod StructVersions
+pub mod CallerLemmas

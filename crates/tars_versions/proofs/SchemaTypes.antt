@@ -34,7 +34,7 @@ plain_depth depths ty.UInt e = refl
 plain_depth depths ty.Text e = refl
 
 -- later structs leave it as it is
-depth_stays : (depths more : List ℕ) (enums structs : ℕ) {t : Ty} → structs ≤ length depths → IsType enums structs t → type_depth (depths ++ more) t ≡ type_depth depths t
+pub depth_stays : (depths more : List ℕ) (enums structs : ℕ) {t : Ty} → structs ≤ length depths → IsType enums structs t → type_depth (depths ++ more) t ≡ type_depth depths t
 depth_stays depths more enums structs {t} few (IsType.plain p) =
     depth_at (depths ++ more) t (out-Ty t) refl ∙ (plain_depth (depths ++ more) (out-Ty t) p ∙ sym (depth_at depths t (out-Ty t) refl ∙ plain_depth depths (out-Ty t) p))
 depth_stays depths more enums structs {t} few (IsType.enum {number = k} is lt) = depth_at (depths ++ more) t (ty.Enum k) is ∙ sym (depth_at depths t (ty.Enum k) is)
@@ -62,11 +62,11 @@ deepest_bounds depths (m ∷ ms) (suc k) x within =
     let most = (greater_bounds (type_depth depths m.ty) (deepest depths ms)).1 in
     omega arith
 
-depths_more : (depths : List ℕ) (xs : List StructDesc) (x : StructDesc) → depths_after depths (xs ++ x ∷ []) ≡ depths_after depths xs ++ suc (deepest (depths_after depths xs) x.members) ∷ []
+pub depths_more : (depths : List ℕ) (xs : List StructDesc) (x : StructDesc) → depths_after depths (xs ++ x ∷ []) ≡ depths_after depths xs ++ suc (deepest (depths_after depths xs) x.members) ∷ []
 depths_more depths [] x = refl
 depths_more depths (y ∷ xs) x = depths_more (depths ++ suc (deepest depths y.members) ∷ []) xs x
 
-depths_length : (depths : List ℕ) (xs : List StructDesc) → length (depths_after depths xs) ≡ length depths + length xs
+pub depths_length : (depths : List ℕ) (xs : List StructDesc) → length (depths_after depths xs) ≡ length depths + length xs
 depths_length depths [] = omega arith
 depths_length depths (y ∷ xs) =
     let rest = depths_length (depths ++ suc (deepest depths y.members) ∷ []) xs in
@@ -105,7 +105,7 @@ new_placed d depths ms m many fits most =
       less = omega arith;
     }
 
-by_number : {A : Type 0} (P : ℕ → Option A → Type 0) (xs : List A) (x : A) → P (length xs) (Some x) → ((k : ℕ) → P k None) → ((k : ℕ) → P k (slice_get xs k)) → (k : ℕ) → P k (slice_get (xs ++ x ∷ []) k)
+pub by_number : {A : Type 0} (P : ℕ → Option A → Type 0) (xs : List A) (x : A) → P (length xs) (Some x) → ((k : ℕ) → P k None) → ((k : ℕ) → P k (slice_get xs k)) → (k : ℕ) → P k (slice_get (xs ++ x ∷ []) k)
 by_number P [] x here none each zero = here
 by_number P [] x here none each (suc k) = none (suc k)
 by_number P (y ∷ ys) x here none each zero = each zero
