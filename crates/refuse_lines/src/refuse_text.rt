@@ -16,7 +16,7 @@ fn word_of(why: Misfit) -> &'static str
 }
 
 /// Adds the steps of a path.
-fn put_path(text: &mut TextBuffer, path: &[u32]) -> Result<(), AllocError>
+pub fn put_path(text: &mut TextBuffer, path: &[u32]) -> Result<(), AllocError>
     ensures { OnOk result (text.new ≡ text.old ++ path_text path.now) }
 {
     let [first, rest @ ..] = path else {
