@@ -5,7 +5,6 @@ use Rattle.std.specs.declared.vec.Vec.{Vec}
 use Rattle.schema_files.specs.declared.load_fault.LoadFault.{LoadFault}
 use Rattle.schema_files.specs.declared.load_fault.LoadFault.TheVariants.{Refused, Read, Memory}
 use Rattle.struct_files.specs.Answers.{done, refused, Gives, bad_file, both_files, IsAnswered}
-use Rattle.struct_files.specs.Opening.{Opens}
 use Rattle.struct_files.specs.Steps.{IsComing}
 use Rattle.struct_files.specs.declared.opening.Opened.{Opened}
 use Rattle.struct_files.proofs.OneGiving.{Coming, IsSingle, only_answer}

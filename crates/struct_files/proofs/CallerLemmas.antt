@@ -5,6 +5,7 @@ use Rattle.struct_files.specs.Decoding.{Decodes, DecodesFile}
 use Rattle.struct_files.specs.Encoding.{Encodes, EncodesFile}
 use Rattle.schema_kept.specs.Written.{HoldBytes}
 use Rattle.schema_kept.proofs.Loaded.{loaded_is_schema}
+pub use Rattle.struct_files.proofs.OneComparing.{some_compared, same_compared}
 use Rattle.struct_files.proofs.OneDecoding.{decodes_single, decodes_total}
 use Rattle.struct_files.proofs.OneEncoding.{encodes_single, encodes_total}
 use Rattle.struct_files.proofs.OneGiving.{some_answer, same_answer}

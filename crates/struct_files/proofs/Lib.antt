@@ -1,10 +1,14 @@
 pub mod Schemas
 pub mod StructFits
+pub mod OneFinding
 pub mod OneOpening
 pub mod OneGiving
 pub mod OneEncoding
 pub mod OneDecoding
+pub mod OneComparing
 pub mod Coming
+pub mod Found
 pub mod Opened
 pub mod Answering
+pub mod Compared
 pub mod CallerLemmas

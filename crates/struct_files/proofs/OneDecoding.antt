@@ -1,5 +1,5 @@
 -- Each text of a hex file comes to one answer, and no other.
-use Rattle.std.proofs.Common.{◌≡◌, ◌⊎◌, inl, inr, ℕ, List, Result, Ok, Err, refl, sym, ap, subst, ◌∙◌}
+use Rattle.std.proofs.Common.{◌≡◌, ◌⊎◌, inl, inr, ℕ, List, Ok, Err, refl, ap, subst}
 use Rattle.hex_text.specs.HexText.{HexSpells, IsHexFault}
 use Rattle.hex_text.proofs.CallerLemmas.{one_spelling, one_fault, some_outcome, octets}
 use Rattle.schema_files.specs.Refusals.{refusal_line, fault_at}
@@ -8,7 +8,6 @@ use Rattle.struct_files.specs.Answers.{TextAnswer, done, refused}
 use Rattle.struct_files.specs.Decoding.{value_line, refuse_line, refuse_of, Decodes, bad_hex, no_body, bad_fields, values}
 use Rattle.struct_files.proofs.OneGiving.{IsSingle, IsTotal}
 use Rattle.tars_decode.specs.Reads.{Read, reads}
-use Rattle.tars_decode.specs.declared.halt.Refusal.{Refusal}
 use Rattle.tars_decode.specs.declared.refuse.Refuse.TheVariants as refuse
 use Rattle.tars_model.specs.Declarations.{Declared, members_at}
 use Rattle.tars_model.specs.declared.value.Value.{Value}

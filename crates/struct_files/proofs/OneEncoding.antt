@@ -1,5 +1,5 @@
 -- Each text of a value file comes to one answer, and no other.
-use Rattle.std.proofs.Common.{◌≡◌, ◌⊎◌, inl, inr, ◌<◌, ◌-◌, ℕ, ℤ, true, List, [], ◌∷◌, length, refl, sym, ap, ◌∙◌, arith}
+use Rattle.std.proofs.Common.{◌≡◌, ◌⊎◌, inl, inr, ◌-◌, ℕ, ℤ, true, List, [], ◌∷◌, length, refl, sym, ap, ◌∙◌, arith}
 use Rattle.schema_files.specs.Refusals.{refusal_line, fault_at}
 use Rattle.schema_files.specs.declared.stage.Stage.TheVariants as stage
 use Rattle.struct_files.specs.Answers.{TextAnswer, refused, done}

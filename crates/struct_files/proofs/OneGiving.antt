@@ -2,7 +2,8 @@
 use Rattle.std.proofs.Common.{◌≡◌, ℕ, List, refl, sym, subst, ◌∙◌}
 use Rattle.schema_files.specs.SchemaLoading as schema
 use Rattle.schema_files.specs.SchemaLoading.{LoadsSchema}
-use Rattle.struct_files.specs.Answers.{TextAnswer, done, refused, unread, Gives, no_file, bad_file, both_files}
+use Rattle.struct_files.specs.Answers.{TextAnswer, refused, unread, Gives, no_file, bad_file, both_files}
+use Rattle.struct_files.specs.Finding.{Finds, found, struct}
 use Rattle.struct_files.specs.Opening.{Opening, Opens, struct_and_values}
 use Rattle.struct_files.specs.Opening as opening
 use Rattle.struct_files.proofs.OneOpening.{one_opening, same_opening}
@@ -56,7 +57,10 @@ module _ (Comes : Coming) (held : Held) (file home name values : List ℕ) where
   only_answer single answer holds = record { holds = holds; only = λ other given. same_answer single other answer given holds }
 
   loaded_of : {d : Declared} {number : ℕ} {text : List ℕ} → Opens held file home name values (opening.opened d number text) → LoadsSchema (held 0) file (schema.declared d)
-  loaded_of (struct_and_values d number text loads declared reads) = loads
+  loaded_of (struct_and_values d number text finds reads) = by_finding finds
+    where
+      by_finding : {d : Declared} {number : ℕ} → Finds (held 0) file home name (found d number) → LoadsSchema (held 0) file (schema.declared d)
+      by_finding (struct d number loads declared) = loads
 
   pub some_answer : ((d : Declared) → LoadsSchema (held 0) file (schema.declared d) → IsTotal Comes d) → (answer : TextAnswer) × Answered answer
   some_answer total = let one = one_opening held file home name values in by_opening one.0 one.1.holds

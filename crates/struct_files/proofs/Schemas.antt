@@ -1,9 +1,8 @@
 -- A schema has at most 1,024 structs.
-use Rattle.std.proofs.Common.{◌≡◌, ◌≤◌, ℕ, List, [], ◌∷◌, length, ap, sym, subst, arith, length-append}
+use Rattle.std.proofs.Common.{◌≤◌, [], ◌∷◌, length, sym, subst, arith, length-append}
 use Rattle.tars_model.specs.Declarations.{Declared}
 use Rattle.tars_model.specs.Schemas.{IsSchema}
 use Rattle.tars_model.specs.Schemas.IsSchema.{nothing, struct, enum, const, key, interface}
-use Rattle.tars_model.specs.declared.struct_desc.StructDesc.{StructDesc}
 
 abbrev Few : Declared → Type 0
 Few d = length d.structs ≤ 1024

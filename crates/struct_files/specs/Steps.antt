@@ -8,9 +8,12 @@ use Rattle.schema_files.specs.declared.load_fault.LoadFault.TheVariants.{Refused
 use Rattle.struct_files.specs.Answers.{TextAnswer, done}
 use Rattle.struct_files.specs.Answers as answer
 use Rattle.struct_files.specs.Decoding.{refuse_line}
+use Rattle.struct_files.specs.Finding as finding
+use Rattle.struct_files.specs.Finding.{Finds}
 use Rattle.struct_files.specs.Opening.{Opens, opened, refused}
+use Rattle.struct_files.specs.declared.finding.Found.{Found}
 use Rattle.struct_files.specs.declared.opening.Opened.{Opened}
-use Rattle.tars_base.specs.Contents.{Held}
+use Rattle.tars_base.specs.Contents.{Contents, Held}
 use Rattle.tars_decode.specs.declared.refuse.Refuse.{Refuse}
 use Rattle.tars_decode.specs.declared.refuse.Refuse.TheVariants as refuse
 use Rattle.tars_model.specs.declared.struct_desc.StructDesc.{StructDesc}
@@ -19,7 +22,14 @@ use Rattle.tars_model.specs.declared.struct_desc.StructDesc.{StructDesc}
 abbrev pub is_struct : List ℕ → List ℕ → StructDesc → Bool
 is_struct home name s = bytes_eq home s.«module» && bytes_eq name s.name
 
--- what is opened, or a refusal, is what opening the files gives; a failed read and want of memory say nothing of it
+-- what is found, or a refusal, is what looking for the struct gives; a failed read and want of memory say nothing of it
+abbrev pub IsFound : Contents → List ℕ → List ℕ → List ℕ → Result Found LoadFault → Type 0
+IsFound contents file home name (Ok f) = Finds contents file home name (finding.found f.schema f.number)
+IsFound contents file home name (Err (Refused line)) = Finds contents file home name (finding.refused line)
+IsFound contents file home name (Err Read) = Unit {0}
+IsFound contents file home name (Err Memory) = Unit {0}
+
+-- the same of what is opened, and of what opening the files gives
 abbrev pub IsOpened : Held → List ℕ → List ℕ → List ℕ → List ℕ → Result Opened LoadFault → Type 0
 IsOpened held file home name values (Ok o) = Opens held file home name values (opened o.schema o.number o.text.items)
 IsOpened held file home name values (Err (Refused line)) = Opens held file home name values (refused line)

@@ -2,6 +2,7 @@
 
 ghost use Rattle.std.specs.Prelude.{◌≡◌, ℕ, List};
 ghost use Rattle.struct_files.specs.Answers.{TextAnswer};
+ghost use Rattle.struct_files.specs.Comparing.{ComparesFiles};
 ghost use Rattle.struct_files.specs.Decoding.{DecodesFile};
 ghost use Rattle.struct_files.specs.Encoding.{EncodesFile};
 ghost use Rattle.schema_kept.specs.Written.{HoldBytes};
@@ -21,4 +22,12 @@ pub fn one_decoding()
         → (answer : TextAnswer) × DecodesFile held file home name hex answer }
     ensures only { (held : Held) (file home name hex : List ℕ) (a b : TextAnswer)
         → DecodesFile held file home name hex a → DecodesFile held file home name hex b → a ≡ b }
+{}
+
+/// Whatever the files hold, comparing two versions of a struct gives one answer, and no other.
+pub fn one_comparison()
+    ensures some { (held : Held) (old new home name : List ℕ)
+        → (answer : TextAnswer) × ComparesFiles held old new home name answer }
+    ensures only { (held : Held) (old new home name : List ℕ) (a b : TextAnswer)
+        → ComparesFiles held old new home name a → ComparesFiles held old new home name b → a ≡ b }
 {}

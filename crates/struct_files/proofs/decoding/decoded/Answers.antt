@@ -1,5 +1,5 @@
 use Rattle.std.proofs.Common.{Global, arith}
-use Rattle.hex_text.specs.HexText.{HexSpells, IsHexFault}
+use Rattle.hex_text.specs.HexText.{IsHexFault}
 use Rattle.hex_text.proofs.CallerLemmas.{half_as_long}
 use Rattle.schema_files.specs.Refusals.{refusal_line, fault_at}
 use Rattle.schema_files.specs.declared.stage.Stage.TheVariants.{Hex}

@@ -1,4 +1,4 @@
-use Rattle.std.proofs.Common.{Global, sym, ap, ◌∙◌, List, ℕ}
+use Rattle.std.proofs.Common.{Global, ap, ◌∙◌, List}
 use Rattle.schema_files.specs.Refusals.{refusal_line, fault_at}
 use Rattle.schema_files.specs.declared.stage.Stage.TheVariants.{Value}
 use Rattle.struct_files.specs.Encoding.{Encodes, bad_value, body, hex_line}

@@ -3,7 +3,7 @@ use Rattle.std.proofs.lemmas.Iterator.Adapters.{position_from-zero}
 use Rattle.tars_model.specs.declared.struct_desc.StructDesc.{StructDesc}
 use Rattle.struct_files.specs.Steps.{is_struct}
 use Rattle.struct_files.proofs.Schemas.{few_structs}
-use Rattle.struct_files.proofs.opening.number_of.Goals as goal
+use Rattle.struct_files.proofs.finding.number_of.Goals as goal
 
 pub overflow_cast-result : goal.overflow_cast-result
 overflow_cast-result c =
