@@ -23,7 +23,7 @@ fn is_below(tag: u8, members: &[Member]) -> bool
     }
 }
 
-fn tags_rise(members: &[Member]) -> bool
+pub fn tags_rise(members: &[Member]) -> bool
     ensures { IsTrue result → HaveRisingTags members.now }
 {
     match members {
@@ -39,7 +39,7 @@ fn default_fits(schema: &Schema, member: &Member) -> bool
     member.require || fits(schema, &member.ty, &member.default)
 }
 
-fn defaults_fit(schema: &Schema, members: &[Member]) -> bool
+pub fn defaults_fit(schema: &Schema, members: &[Member]) -> bool
     ensures { IsTrue result → All (DefaultFits schema.now) members.now }
 {
     match members {
@@ -87,6 +87,25 @@ fn put_body(page: &mut Page, schema: &Schema, members: &[Member], values: &[Valu
         Ok(()) => put_read(page, schema, members, bytes.as_slice()),
         Err(_) => page.fail(),
     }
+}
+
+/// The bytes that spell values under members. Where there are none, that is added.
+pub fn body_of(
+    page: &mut Page,
+    schema: &Schema,
+    members: &[Member],
+    values: &[Value],
+) -> Option<BytesMut> {
+    if !tags_rise(members) || !members_fit(schema, members, values) {
+        page.add("no values of the members");
+        return None;
+    }
+    let mut bytes = BytesMut::new(page.alloc());
+    if encode(schema, members, values, &mut bytes).is_err() {
+        page.fail();
+        return None;
+    }
+    Some(bytes)
 }
 
 /// Adds what comes of values under members: the bytes that spell them, and the values that are read from these.

@@ -1,13 +1,14 @@
-//! Worked cases for `tars_base`, `tars_model`, `tars_wire`, `tars_codec`, `tars_decode`, `value_text`, `idl_parse` and
-//! `idl_check`: the files `data/*.rows` have the cases, a row each, and `stdout` what each of them comes to. What comes
-//! of a row was worked by hand from docs/PROTOCOL.md, docs/IDL.md and docs/SCRIPTS.md, or by the readers of
-//! tests/body_rows.py and tests/value_rows.py; it is printed in the row's place, and comments and empty lines are
-//! printed as they are.
+//! Worked cases for `tars_base`, `tars_model`, `tars_wire`, `tars_codec`, `tars_decode`, `tars_versions`, `value_text`,
+//! `idl_parse` and `idl_check`: the files `data/*.rows` have the cases, a row each, and `stdout` what each of them comes
+//! to. What comes of a row was worked by hand from docs/PROTOCOL.md, docs/IDL.md and docs/SCRIPTS.md, or by the readers
+//! of tests/body_rows.py, value_rows.py, version_rows.py and argument_rows.py; it is printed in the row's place, and
+//! comments and empty lines are printed as they are.
 //!
 //! The program takes the names of files. Of a file that is no table it prints whether its bytes are a body
 //! of tagged fields (docs/PROTOCOL.md, "Reading"), so that scanning can be timed.
 #![tactic(auto)]
 
+mod arguments;
 mod bodies;
 mod codec;
 mod descriptors;
@@ -21,6 +22,7 @@ mod shape;
 mod structs;
 mod tokens;
 mod values;
+mod versions;
 mod walk;
 
 use page::Page;

@@ -2,6 +2,7 @@
 
 ghost use Rattle.std.specs.Prelude.{◌<◌, ◌^◌, length};
 
+use crate::arguments::put_arguments;
 use crate::codec::put_codec;
 use crate::descriptors::{put_interfaces, put_members};
 use crate::files::put_file;
@@ -10,6 +11,7 @@ use crate::page::Page;
 use crate::row_text::{bytes_of, split_word};
 use crate::schemas::{put_decode, put_default, put_value};
 use crate::tokens::{put_mebibyte, put_tokens_of};
+use crate::versions::{put_carry, put_compat};
 use crate::walk::put_walk;
 use idl_parse::LexWhy;
 use tars_wire::scan;
@@ -81,6 +83,9 @@ fn put_plain(page: &mut Page, row: &str, word: &str, text: &str) {
         "interfaces" => put_interfaces(page),
         "default" => put_default(page, text),
         "decode" => put_decode(page, text),
+        "arguments" => put_arguments(page, text),
+        "compat" => put_compat(page, text),
+        "carry" => put_carry(page, text),
         "value" => put_value(page, text),
         "codec" => put_codec(page, text),
         "reads" => put_reads(page, text),

@@ -1,4 +1,4 @@
-//! What is asked of the last struct that a file declares.
+//! What files declare, and what is asked of the last struct of one.
 
 ghost use Rattle.std.specs.Prelude.{◌<◌, ◌^◌, [], ◌∷◌, length};
 ghost use Rattle.idl_parse.specs.Tokens.{Tokens as TokensOf};
@@ -9,45 +9,71 @@ use crate::structs::{Asked, put_last_struct};
 use idl_check::{CheckFault, check};
 use idl_parse::{Ast, Token, lex, parse};
 use std::slice;
+use tars_model::Schema;
 
 /// The most bytes of a file.
 const MOST: usize = 1 << 20;
 
-fn put_checked(page: &mut Page, file: &Ast, asked: Asked<'_>)
-    requires { length file.now.text < 2 ^ 32 }
-{
-    match check(page.alloc(), slice::from_ref(file)) {
-        Ok(schema) => put_last_struct(page, &schema, asked),
-        Err(CheckFault::Bad { at, why, .. }) => {
+/// Adds why a file declares no schema.
+fn put_fault(page: &mut Page, fault: CheckFault) {
+    match fault {
+        CheckFault::Bad { at, why, .. } => {
             let number = why.number();
             page.show(format_args!("{number} at {at}"));
         }
-        Err(CheckFault::Memory) => page.fail(),
+        CheckFault::Memory => page.fail(),
     }
 }
 
-fn put_parsed(page: &mut Page, text: &[u8], tokens: &[Token], asked: Asked<'_>)
+fn schema_of_tree(page: &mut Page, file: &Ast) -> Option<Schema>
+    requires { length file.now.text < 2 ^ 32 }
+{
+    match check(page.alloc(), slice::from_ref(file)) {
+        Ok(schema) => Some(schema),
+        Err(fault) => {
+            put_fault(page, fault);
+            None
+        }
+    }
+}
+
+fn schema_of_tokens(page: &mut Page, text: &[u8], tokens: &[Token]) -> Option<Schema>
     requires short { length text.now < 2 ^ 32 }
     requires tokens { TokensOf text.now tokens.now }
 {
     match parse(page.alloc(), "a.tars", text, tokens) {
-        Ok(file) => put_checked(page, &file, asked),
-        Err(_) => page.add("no file"),
+        Ok(file) => schema_of_tree(page, &file),
+        Err(_) => {
+            page.add("no file");
+            None
+        }
     }
 }
 
-fn put_file(page: &mut Page, text: &[u8], asked: Asked<'_>) {
+/// What a file declares. Where it is at fault, that is added.
+pub fn schema_of(page: &mut Page, text: &[u8]) -> Option<Schema> {
     if text.len() > MOST {
-        return page.add("too long");
+        page.add("too long");
+        return None;
     }
     match lex(page.alloc(), text) {
-        Ok(tokens) => put_parsed(page, text, tokens.as_slice(), asked),
-        Err(_) => page.add("no tokens"),
+        Ok(tokens) => schema_of_tokens(page, text, tokens.as_slice()),
+        Err(_) => {
+            page.add("no tokens");
+            None
+        }
+    }
+}
+
+/// Adds what is asked of the last struct of a file.
+pub fn put_file(page: &mut Page, text: &[u8], asked: Asked<'_>) {
+    if let Some(schema) = schema_of(page, text) {
+        put_last_struct(page, &schema, asked);
     }
 }
 
 /// The two texts of a row that stand before and after an arrow, if there is one.
-fn two_texts(text: &str) -> (&str, &str) {
+pub fn two_texts(text: &str) -> (&str, &str) {
     text.split_once(" => ").unwrap_or((text, ""))
 }
 

@@ -43,7 +43,8 @@ fn put_default(page: &mut Page, schema: &Schema, number: u32) {
     }
 }
 
-fn put_refused(page: &mut Page, why: &str, path: &[u32]) {
+/// Adds a reason and the path to it.
+pub fn put_refused(page: &mut Page, why: &str, path: &[u32]) {
     page.add(why);
     for step in path {
         page.add(" ");
@@ -84,7 +85,7 @@ fn put_decoded(page: &mut Page, schema: &Schema, number: u32, bytes: &[u8]) {
 }
 
 /// Adds a value as it is printed.
-fn put_text(page: &mut Page, schema: &Schema, ty: &Ty, value: &Value)
+pub fn put_text(page: &mut Page, schema: &Schema, ty: &Ty, value: &Value)
     requires { fits_type schema.now ty.now value.now ≡ true }
 {
     match print_value(page.alloc(), schema, ty, value) {
@@ -117,10 +118,15 @@ fn put_value_text(page: &mut Page, schema: &Schema, number: u32, text: &[u8]) {
     }
 }
 
+/// The number of the last struct, if there is one.
+pub fn last_struct(schema: &Schema) -> Option<u32> {
+    let count = u32::try_from(schema.structs().len()).unwrap_or(0);
+    count.checked_sub(1)
+}
+
 /// Adds what is asked of the last struct.
 pub fn put_last_struct(page: &mut Page, schema: &Schema, asked: Asked<'_>) {
-    let count = u32::try_from(schema.structs().len()).unwrap_or(0);
-    let Some(number) = count.checked_sub(1) else {
+    let Some(number) = last_struct(schema) else {
         return page.add("no struct");
     };
     match asked {
