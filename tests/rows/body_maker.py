@@ -1,4 +1,4 @@
-"""Bodies for body_rows.py, in hexadecimal digits: pieces of bodies by hand, and spellings of random values."""
+"""Bodies in hexadecimal digits: pieces of bodies by hand, and spellings of random values."""
 
 from .body_reader import FIELDS, WIDTHS, Wire, widest_of
 from .tables import Enum, Map, Struct, Vector, range_of

@@ -1,4 +1,4 @@
-"""What body_rows.py and value_rows.py share: the types of an interface file, and tables of rows.
+"""What the scripts that write tables share: the types of an interface file, and tables of rows.
 
 A table is a file of `crates/law_tables/data` with a row or a comment on each line, and the part of that crate's
 `stdout` with what each of these lines comes to. Nothing here is taken from the crates. Of the interface language
