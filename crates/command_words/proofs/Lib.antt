@@ -1,0 +1,6 @@
+pub mod WalkLaws
+pub mod SlotLaws
+pub mod FormLaws
+pub mod StructWords
+pub mod CommandLaws
+pub mod WordLaws
