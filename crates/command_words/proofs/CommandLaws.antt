@@ -9,7 +9,8 @@ use Rattle.clap.specs.Words.{fault_of, subcommand_of}
 use Rattle.clap.proofs.OnLiterals.{clap_on_literals}
 use Rattle.command_words.specs.FormSteps.{forms, check_form, plan_form, encode_form, decode_form, compat_form}
 use Rattle.command_words.specs.Words.{is_word}
-use Rattle.command_words.specs.WordSteps.{Asked, check, plan, encode, decode, compat, struct_of, on_struct, old_new, of_two, of_struct, of_words, asked_at}
+use Rattle.command_words.specs.Asked.{Asked, check, plan, encode, decode, compat}
+use Rattle.command_words.specs.WordSteps.{struct_of, on_struct, old_new, of_two, of_struct, of_words, asked_at}
 use Rattle.command_words.proofs.SlotLaws.{Takes, held_after, fault_from, walk_takes, takes_so_many}
 use Rattle.command_words.proofs.FormLaws.{IsNameOf, made, check_name, plan_name, encode_name, decode_name, compat_name, check_takes, plan_takes, encode_takes, decode_takes, compat_takes, named_fault, named_rows}
 

@@ -4,3 +4,4 @@ pub mod FormLaws
 pub mod StructWords
 pub mod CommandLaws
 pub mod WordLaws
+pub mod CallerLemmas

@@ -20,7 +20,8 @@ use Rattle.command_words.specs.declared.request.WordsFault.{WordsFault}
 use Rattle.command_words.specs.declared.request.WordsFault.TheVariants.{Usage, Memory}
 use Rattle.command_words.specs.FormSteps.{forms}
 use Rattle.command_words.specs.Words.{AskFor, AskOn, AskForCompat, AreNoForm, is_word}
-use Rattle.command_words.specs.WordSteps.{Asked, check, plan, encode, decode, compat, struct_of, asked_at, AreAsked}
+use Rattle.command_words.specs.Asked.{Asked, check, plan, encode, decode, compat, AreAsked}
+use Rattle.command_words.specs.WordSteps.{struct_of, asked_at}
 use Rattle.command_words.proofs.FormLaws.{are_simple, Labels, no_words, help_fails, other_fails}
 use Rattle.command_words.proofs.StructWords.{struct_found, struct_is, struct_word}
 use Rattle.command_words.proofs.CommandLaws.{Found, All, Split, Reads, so_many, no_fault, found_is, by_one, by_three, read_file, read_struct, read_two, encodes, decodes, compares, check_reads, plan_reads, encode_reads, decode_reads, compat_reads}

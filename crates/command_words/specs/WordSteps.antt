@@ -7,27 +7,9 @@ use Rattle.facts.specs.OptionSteps.{◌>>=◌}
 use Rattle.idl_parse.specs.Bytes.{begins, is_word_byte}
 use Rattle.idl_parse.specs.LexSteps.{run, after_run}
 use Rattle.tars_model.specs.declared.struct_name.StructName.{StructName}
-use Rattle.command_words.specs.Words.{AskForCheck, AskForPlan, AskForEncode, AskForDecode, AskForCompat}
+use Rattle.command_words.specs.Asked.{Asked, check, plan, encode, decode, compat}
 use Rattle.command_words.specs.declared.request.OldNew.{OldNew}
 use Rattle.command_words.specs.declared.request.OnStruct.{OnStruct}
-use Rattle.command_words.specs.declared.request.Request.{Request}
-use Rattle.command_words.specs.declared.request.Request.TheVariants.{Check, Plan, Encode, Decode, Compat}
-
--- what is asked of which files
-pub data Asked : Type 0 where
-  check : List ℕ → Asked
-  plan : List ℕ → Asked
-  encode : List ℕ → List ℕ → List ℕ → List ℕ → Asked
-  decode : List ℕ → List ℕ → List ℕ → List ℕ → Asked
-  compat : List ℕ → List ℕ → List ℕ → List ℕ → Asked
-
--- what a request asks for
-abbrev pub asked_by : Request → Asked
-asked_by (Check file) = check file.now
-asked_by (Plan script) = plan script.now
-asked_by (Encode on) = encode on.file.now on.of.«module».now on.of.name.now on.values.now
-asked_by (Decode on) = decode on.file.now on.of.«module».now on.of.name.now on.values.now
-asked_by (Compat on) = compat on.old.now on.new.now on.of.«module».now on.of.name.now
 
 -- a module and a name
 abbrev pub named_by : StructName → List ℕ × List ℕ
@@ -105,11 +87,3 @@ of_words command rows =
 -- what a command and its words ask for, where `clap` found one
 abbrev pub asked_at : Option (List ℕ × List Row) → Option Asked
 asked_at met = met >>= λ p. of_words p.0 p.1
-
--- the words ask for this
-abbrev pub AreAsked : List (List ℕ) → Asked → Type 0
-AreAsked words (check file) = AskForCheck words file
-AreAsked words (plan script) = AskForPlan words script
-AreAsked words (encode file home name values) = AskForEncode words file home name values
-AreAsked words (decode file home name hex) = AskForDecode words file home name hex
-AreAsked words (compat old new home name) = AskForCompat words old new home name

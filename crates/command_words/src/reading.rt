@@ -4,7 +4,8 @@ ghost use Rattle.std.specs.Prelude.{◌≡◌, option_map};
 ghost use Rattle.clap.specs.Walk.{first_of, rows_of};
 ghost use Rattle.clap.specs.Words.{found_of, subcommand_rows_of};
 ghost use Rattle.command_words.specs.WordSteps as spec;
-ghost use Rattle.command_words.specs.WordSteps.{asked_by, named_by, on_struct_by, old_new_by};
+ghost use Rattle.command_words.specs.Asked.{asked_by};
+ghost use Rattle.command_words.specs.WordSteps.{named_by, on_struct_by, old_new_by};
 
 use crate::request::{OldNew, OnStruct, Request};
 use crate::splitting::split_word;

@@ -5,7 +5,7 @@ ghost use Rattle.std.specs.List.{list_all};
 ghost use Rattle.clap.specs.Words.{fault_of, kind_of, subcommand_of, subcommand_rows_of};
 ghost use Rattle.command_words.specs.FormSteps.{forms};
 ghost use Rattle.command_words.specs.Words.{AreNoForm, is_word};
-ghost use Rattle.command_words.specs.WordSteps.{asked_by, AreAsked};
+ghost use Rattle.command_words.specs.Asked.{asked_by, AreAsked};
 
 use crate::app::app_of;
 use crate::reading::request_in;

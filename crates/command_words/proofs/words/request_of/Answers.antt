@@ -1,6 +1,6 @@
 use Rattle.std.proofs.Common.{rules, true, false, map, string_bytes}
 use Rattle.clap.specs.Words.{subcommand_rows_of}
-use Rattle.command_words.specs.WordSteps.{asked_by}
+use Rattle.command_words.specs.Asked.{asked_by}
 use Rattle.command_words.proofs.WordLaws.{texts_are, no_form_of_others, request_is, usage_failed, asked_found, usage_found, no_form_found}
 use Rattle.command_words.proofs.words.request_of.Goals as goal
 
