@@ -3,7 +3,7 @@ use Rattle.std.proofs.Common.{◌≡◌, ◌≤◌, ℕ, List, [], ◌∷◌, le
 use Rattle.std.specs.List.{All}
 use Rattle.tars_model.specs.Declarations.{Declared, members_at, struct_members, with_struct, with_enum, with_const, with_key, with_interface}
 use Rattle.tars_model.specs.Schemas.{IsSchema, IsTypeIn, StructFits}
-use Rattle.tars_model.specs.Types.{IsType, type_depth, deepest, depths_of}
+use Rattle.tars_model.specs.Types.{IsType, type_depth, depths_of}
 use Rattle.tars_model.specs.declared.enum_desc.EnumDesc.{EnumDesc}
 use Rattle.tars_model.specs.declared.member.Member.{Member}
 use Rattle.tars_model.specs.declared.struct_desc.StructDesc.{StructDesc}
