@@ -3,13 +3,13 @@ pub mod NumberLaws
 pub mod EachKind
 pub mod Said
 pub mod Projection
-pub mod WrittenBytes
 pub mod Merging
 pub mod Lengths
 pub mod Ranges
 pub mod SchemaTypes
 pub mod KeyTypes
 pub mod Accepting
+pub mod WrittenBytes
 pub mod Levels
 pub mod StructVersions
 pub mod CallerLemmas

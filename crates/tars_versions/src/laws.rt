@@ -1,6 +1,6 @@
 //! Laws of two versions. The functions do nothing: each is its contract.
 
-ghost use Rattle.std.specs.Prelude.{◌≡◌, ◌<◌, true, ℕ, List, Result, All};
+ghost use Rattle.std.specs.Prelude.{◌≡◌, true, ℕ, List, Result, IsOkUnless};
 ghost use Rattle.tars_model.specs.Declarations.{Declared};
 ghost use Rattle.tars_model.specs.Values.{fit_members};
 ghost use Rattle.tars_model.specs.declared.member.Member.{Member};
@@ -10,11 +10,11 @@ ghost use Rattle.tars_wire.specs.Spelled.{Spelled};
 ghost use Rattle.tars_decode.specs.Reads.{reads};
 ghost use Rattle.tars_decode.specs.Decoding.{Answers};
 ghost use Rattle.tars_decode.specs.declared.refuse.Refuse.{Refuse};
-ghost use Rattle.tars_codec.specs.Written.{fields_of, written};
+ghost use Rattle.tars_codec.specs.Written.{fields_of};
 ghost use Rattle.tars_model.specs.Schemas.{IsSchema, IsTypeIn};
 ghost use Rattle.tars_model.specs.declared.ty.Ty.{Ty, out-Ty};
-ghost use Rattle.tars_versions.specs.Agreement.{agree_by, agrees, IsVersion};
-ghost use Rattle.tars_versions.specs.Decoded.{IsDecoded};
+ghost use Rattle.tars_versions.specs.Agreement.{agree, agree_by, agrees, versions_agree, IsVersion};
+ghost use Rattle.tars_versions.specs.Decoded.{IsWritten, IsDecoded};
 ghost use Rattle.tars_versions.specs.Projected.{project_members};
 
 /// What a reader of one version takes for the values of another is their projection.
@@ -25,7 +25,13 @@ pub fn decoding_projects()
     // So bytes that spell these fields are decoded to it.
     ensures decoded { (old : Declared) (old_members : List Member) (values : List Value) (new : Declared) (new_members : List Member) (bytes : List ℕ) (result : Result (List Value) Refuse) → fit_members old old_members values ≡ true → Spelled MAX_DEPTH bytes (fields_of old old_members values) → IsDecoded bytes new new_members result → Answers result (project_members old old_members values new new_members) }
     // And what `encode` writes for old values is decoded to it.
-    ensures written { (old : Declared) (old_members : List Member) (values : List Value) (new : Declared) (new_members : List Member) (bytes : List ℕ) (result : Result (List Value) Refuse) → IsSchema old → IsVersion old old_members → fit_members old old_members values ≡ true → All (λ byte. byte < 256) bytes → bytes ≡ written old old_members values → IsDecoded bytes new new_members result → Answers result (project_members old old_members values new new_members) }
+    ensures written { (old : Declared) (old_members : List Member) (values : List Value) (new : Declared) (new_members : List Member) (bytes : List ℕ) (result : Result (List Value) Refuse) → IsWritten old old_members values bytes → IsDecoded bytes new new_members result → Answers result (project_members old old_members values new new_members) }
+{}
+
+/// Where versions agree, a reader of the new one refuses nothing that is written for values of the old one.
+#[tactic(auto, using(crate::proofs::WrittenBytes::agreeing_are_read))]
+pub fn agreement_refuses_nothing()
+    ensures { (old : Declared) (old_members : List Member) (values : List Value) (new : Declared) (new_members : List Member) (bytes : List ℕ) (result : Result (List Value) Refuse) → IsSchema new → IsVersion new new_members → versions_agree old old_members new new_members ≡ agree → IsWritten old old_members values bytes → IsDecoded bytes new new_members result → IsOkUnless result Refuse.Memory }
 {}
 
 /// Agreement follows its rules: how types agree is told by how those inside them do. (`agrees` counts levels; no type of

@@ -10,6 +10,6 @@ mod path;
 mod reason_kind;
 
 pub use agreement::compatible;
-pub use laws::{agreement_follows_rules, decoding_projects};
+pub use laws::{agreement_follows_rules, agreement_refuses_nothing, decoding_projects};
 pub use path::Path;
 pub use reason_kind::ReasonKind;
