@@ -1,4 +1,4 @@
--- What `compat` gives (docs/SCRIPTS.md, "Commands"; docs/PROTOCOL.md, "Compatibility").
+-- What `compat` gives (docs/SCRIPTS.md, "Two versions"; docs/PROTOCOL.md, "Compatibility").
 use Rattle.std.specs.Prelude.{ℕ, List, ◌++◌, codes}
 use Rattle.refuse_lines.specs.RefuseText.{path_text}
 use Rattle.struct_files.specs.Answers.{TextAnswer, done, refused, unread}
