@@ -4,7 +4,7 @@
 //! from is left to the caller, through the trait `Files`.
 //!
 //! Read `specs/Finding.antt` and `specs/Opening.antt` first, then `specs/Encoding.antt`, `specs/Decoding.antt` and
-//! `specs/Comparing.antt`, beside docs/SCRIPTS.md ("Values of a struct"). The module `Steps` follows the code's steps and is
+//! `specs/Comparing.antt`, beside docs/SCRIPTS.md ("Values of a struct", "Two versions"). The module `Steps` follows the code's steps and is
 //! for the proofs.
 #![tactic(auto)]
 
