@@ -1,0 +1,3 @@
+mod StructFits
+mod LastDeclared
+mod Reading
