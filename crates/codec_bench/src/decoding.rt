@@ -39,11 +39,10 @@ fn last_values(
     ensures reads { IfSome result (λ values. ReadsValues schema.now number body.now values) }
     ensures fits { IfSome result (λ values. fit_members schema.now (members_at schema.now number) values ≡ true) }
 {
-    let mut values = values_of(alloc, schema, number, body)?;
     for _ in 1..times {
-        values = values_of(alloc, schema, number, body)?;
+        let _ = values_of(alloc, schema, number, body)?;
     }
-    Some(values)
+    values_of(alloc, schema, number, body)
 }
 
 /// The printed text of a struct's values.

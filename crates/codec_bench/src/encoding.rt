@@ -55,11 +55,10 @@ fn last_body(
     requires { fit_members schema.now (members_at schema.now number) values.now ≡ true }
     ensures { IfOk result (λ body. body.items ≡ written schema.now (members_at schema.now number) values.now) }
 {
-    let mut body = body_of(alloc, schema, number, values)?;
     for _ in 1..times {
-        body = body_of(alloc, schema, number, values)?;
+        let _ = body_of(alloc, schema, number, values)?;
     }
-    Ok(body)
+    body_of(alloc, schema, number, values)
 }
 
 fn encoded(alloc: Global, interface: &[u8], text: &[u8], times: u32) -> Option<BytesMut>
