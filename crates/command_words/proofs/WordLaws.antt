@@ -214,6 +214,10 @@ request_is view words met (Some request) all is found = asked words all is.0 (vi
 abbrev pub failed : {A : Type 0} → WordsFault → Result A WordsFault
 failed fault = Err fault
 
+-- words that all may stand in a command are not those of which one may not
+pub not_others : (P : Type 0) (words : List Text) → All words → list_all is_word words ≡ false → P
+not_others P words all other = absurd (let both : true ≡ false = sym all ∙ other in cc)
+
 -- the request that is returned, or why there is none
 module _ {Y : Type 0} (view : Y → Asked) (words : List Text) where
   pub usage_failed : {A : Type 0} (fault : WordsFault) (result : Result Y WordsFault) → IsErr result × IsErrAnd result (λ e. e ≡ fault) → (failed {A = A} fault ≡ failed Usage → fault_of forms words ≢ []) → result ≡ Err Usage → AreNoForm words

@@ -1,6 +1,6 @@
 //! The words of the command line, which `specs/Words.antt` says.
 
-ghost use Rattle.std.specs.Prelude.{◌≡◌, ◌≢◌, ◌⊎◌, ◌↔◌, [], Err, IfOk, map, string_bytes};
+ghost use Rattle.std.specs.Prelude.{◌≡◌, ◌≢◌, ◌⊎◌, ◌↔◌, [], false, Err, IfOk, map, string_bytes};
 ghost use Rattle.std.specs.List.{list_all};
 ghost use Rattle.clap.specs.Words.{fault_of, kind_of, subcommand_of, subcommand_rows_of};
 ghost use Rattle.command_words.specs.FormSteps.{forms};
@@ -63,6 +63,8 @@ pub fn request_of<'a>(alloc: Global, words: &'a [String]) -> Result<Request<'a>,
     ensures usage { result ≡ Err WordsFault.Usage → AreNoForm (map string_bytes words.now) }
     ensures no_form { AreNoForm (map string_bytes words.now)
         → (result ≡ Err WordsFault.Usage) ⊎ (result ≡ Err WordsFault.Memory) }
+    // A word that is empty or begins with `-` is seen before memory is taken.
+    ensures no_word { list_all is_word (map string_bytes words.now) ≡ false → result ≡ Err WordsFault.Usage }
 {
     if !are_words(words) {
         return Err(WordsFault::Usage);

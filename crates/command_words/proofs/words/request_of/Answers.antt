@@ -1,7 +1,7 @@
 use Rattle.std.proofs.Common.{rules, true, false, map, string_bytes}
 use Rattle.clap.specs.Words.{subcommand_rows_of}
 use Rattle.command_words.specs.Asked.{asked_by}
-use Rattle.command_words.proofs.WordLaws.{texts_are, no_form_of_others, request_is, usage_failed, asked_found, usage_found, no_form_found}
+use Rattle.command_words.proofs.WordLaws.{texts_are, no_form_of_others, not_others, request_is, usage_failed, asked_found, usage_found, no_form_found}
 use Rattle.command_words.proofs.words.request_of.Goals as goal
 
 pub returns-then-not-are_words-clause-usage : goal.returns-then-not-are_words-clause-usage
@@ -33,3 +33,11 @@ returns-clause-no_form c =
     let all = texts_are string_bytes c.args.words.now c.are_words.result true c.are_words.ensures (search rules) in
     let matched = request_is asked_by texts (subcommand_rows_of c.in_ok-matches.matches) c.request_in.result all c.in_ok-matches.ensures.taken c.request_in.ensures in
     no_form_found asked_by texts c.request_in.result c.ok_or.result c.ok_or.ensures.value matched
+
+pub returns-in_err-matches-clause-no_word : goal.returns-in_err-matches-clause-no_word
+returns-in_err-matches-clause-no_word c =
+    not_others _ (map string_bytes c.args.words.now) (texts_are string_bytes c.args.words.now c.are_words.result true c.are_words.ensures (search rules))
+
+pub returns-clause-no_word : goal.returns-clause-no_word
+returns-clause-no_word c =
+    not_others _ (map string_bytes c.args.words.now) (texts_are string_bytes c.args.words.now c.are_words.result true c.are_words.ensures (search rules))
