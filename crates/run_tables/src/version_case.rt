@@ -7,12 +7,7 @@ use std::alloc::{AllocError, Global};
 use tars_base::MemFiles;
 
 /// What comes of comparing a struct of these two interface files, of which the second may be absent.
-fn outcome(
-    alloc: Global,
-    of: &str,
-    old: &str,
-    new: Option<&str>,
-) -> Result<String, AllocError> {
+fn outcome(alloc: Global, of: &str, old: &str, new: Option<&str>) -> Result<String, AllocError> {
     let mut files = vec![in alloc; named(alloc, "old.tars", old)?]?;
     if let Some(new) = new {
         files.push(named(alloc, "new.tars", new)?)?;
