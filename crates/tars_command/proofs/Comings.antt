@@ -3,6 +3,7 @@ use Rattle.std.proofs.Common.{◌≡◌, ◌≢◌, ℕ, List, Option, sym, ap, 
 use Rattle.std.specs.Prelude.{Result, Ok, Err, IsErr, IsErrAnd}
 use Rattle.std.specs.declared.vec.Vec.{Vec}
 use Rattle.canonical_text.specs.Canonical.{canonical}
+use Rattle.command_words.specs.Asked.{Asked, check, plan, encode, decode, compat}
 use Rattle.report_lines.specs.ReportText.{report_text_of}
 use Rattle.schema_files.specs.SchemaLoading as schema
 use Rattle.schema_files.specs.SchemaLoading.{SchemaAnswer, LoadsSchema}
@@ -16,14 +17,14 @@ use Rattle.session.proofs.CallerLemmas.{ForScript, loads_loaded, one_answer}
 use Rattle.session_model.specs.declared.loaded.Loaded.{Loaded}
 use Rattle.struct_files.specs.Answers as text
 use Rattle.struct_files.specs.Answers.{TextAnswer, IsAnswered}
+use Rattle.struct_files.specs.Comparing.{ComparesFiles}
 use Rattle.struct_files.specs.Decoding.{DecodesFile}
 use Rattle.struct_files.specs.Encoding.{EncodesFile}
 use Rattle.schema_kept.specs.Written.{HoldBytes}
-use Rattle.struct_files.proofs.CallerLemmas.{some_encoded, same_encoded, some_decoded, same_decoded}
+use Rattle.struct_files.proofs.CallerLemmas.{some_encoded, same_encoded, some_decoded, same_decoded, some_compared, same_compared}
 use Rattle.tars_base.specs.Contents.{Contents, Held, IsHeld}
 use Rattle.tars_command.specs.Due.{DueAnswer, usage, done, due_of_schema, due_of_script, due_of_text}
-use Rattle.tars_command.specs.RunSteps.{Comes, checked, run, encoded, decoded, IsComing}
-use Rattle.tars_command.specs.WordSteps.{Asked, check, plan, encode, decode}
+use Rattle.tars_command.specs.RunSteps.{Comes, checked, run, encoded, decoded, compared, IsComing}
 use Rattle.tars_model.specs.Declarations.{Declared}
 
 -- ---- one answer
@@ -39,6 +40,7 @@ module _ (held : Held) where
   some_coming (plan script) bytes = let one = one_answer held script in (due_of_script one.0, run one.0 one.1.holds)
   some_coming (encode file home name values) bytes = let some = some_encoded held file home name values bytes in (due_of_text some.0, encoded some.0 some.1)
   some_coming (decode file home name hex) bytes = let some = some_decoded held file home name hex in (due_of_text some.0, decoded some.0 some.1)
+  some_coming (compat old new home name) bytes = let some = some_compared held old new home name in (due_of_text some.0, compared some.0 some.1)
 
   pub same_coming : (x : Asked) (a b : DueAnswer) → Comes held x a → Comes held x b → a ≡ b
   same_coming (check file) a b (checked first holds) (checked second also) =
@@ -47,6 +49,7 @@ module _ (held : Held) where
       let one = one_answer held script in ap due_of_script (one.1.only first holds ∙ sym (one.1.only second also))
   same_coming (encode file home name values) a b (encoded first holds) (encoded second also) = ap due_of_text (same_encoded held file home name values first second holds also)
   same_coming (decode file home name hex) a b (decoded first holds) (decoded second also) = ap due_of_text (same_decoded held file home name hex first second holds also)
+  same_coming (compat old new home name) a b (compared first holds) (compared second also) = ap due_of_text (same_compared held old new home name first second holds also)
 
 schema_due : (answer : SchemaAnswer) → due_of_schema answer ≢ usage
 schema_due (schema.declared d) = λ e. cc
@@ -68,6 +71,7 @@ no_usage held x answer (checked given holds) = schema_due given
 no_usage held x answer (run given holds) = script_due given
 no_usage held x answer (encoded given holds) = text_due given
 no_usage held x answer (decoded given holds) = text_due given
+no_usage held x answer (compared given holds) = text_due given
 
 -- ---- what is returned
 
@@ -124,6 +128,10 @@ module _ (A : Type 0) (told : Option Contents) where
   pub decode_comes : (file home name hex : List ℕ) (result : Result (Vec ℕ A) LoadFault) → (held : Held) × IsHeld told held × IsAnswered (DecodesFile held file home name hex) result → ForAsked (decode file home name hex) result
   decode_comes file home name hex result given =
       (given.0, given.1, by_answer given.0 (decode file home name hex) (DecodesFile given.0 file home name hex) (λ answer holds. decoded answer holds) result given.2)
+
+  pub compat_comes : (old new home name : List ℕ) (result : Result (Vec ℕ A) LoadFault) → (held : Held) × IsHeld told held × IsAnswered (ComparesFiles held old new home name) result → ForAsked (compat old new home name) result
+  compat_comes old new home name result given =
+      (given.0, given.1, by_answer given.0 (compat old new home name) (ComparesFiles given.0 old new home name) (λ answer holds. compared answer holds) result given.2)
 
 -- a script that is loaded can be run
 pub is_loaded : (told : Option Contents) (script : List ℕ) (l : Loaded) → ForScript told script (Ok l) → IsLoaded l

@@ -1,13 +1,13 @@
 -- Whatever the words are and the files hold, one answer is due, and no other.
 use Rattle.std.proofs.Common.{◌≡◌, inl, inr, ℕ, List, refl, sym, subst}
+use Rattle.command_words.specs.Asked.{Asked, check, plan, encode, decode, compat, AreAsked}
+use Rattle.command_words.specs.Words.{AreNoForm}
+use Rattle.command_words.proofs.CallerLemmas.{Either, asked_or_no_form, one_asked, not_none}
 use Rattle.tars_base.specs.Contents.{Held, HoldsOnly}
 use Rattle.tars_command.specs.Due as due
 use Rattle.tars_command.specs.Due.{DueAnswer, usage, Due, no_form, AskedOfBytes}
-use Rattle.tars_command.specs.RunSteps.{Comes, checked, run, encoded, decoded}
-use Rattle.tars_command.specs.WordSteps.{Asked, check, plan, encode, decode, AreAsked}
-use Rattle.tars_command.specs.Words.{AreNoForm}
+use Rattle.tars_command.specs.RunSteps.{Comes, checked, run, encoded, decoded, compared}
 use Rattle.tars_command.proofs.Comings.{HasBytesFor, some_coming, same_coming}
-use Rattle.tars_command.proofs.WordLaws.{Either, asked_or_no_form, one_asked, not_none}
 
 module _ (held : Held) (words : List (List ℕ)) where
   -- what is due, by whether the words ask for something
@@ -21,12 +21,14 @@ module _ (held : Held) (words : List (List ℕ)) where
   row_of answer (due.plan script given ask holds) = row (plan script) ask (run given holds)
   row_of answer (due.encode file home name values given ask holds) = row (encode file home name values) ask (encoded given holds)
   row_of answer (due.decode file home name hex given ask holds) = row (decode file home name hex) ask (decoded given holds)
+  row_of answer (due.compat old new home name given ask holds) = row (compat old new home name) ask (compared given holds)
 
   due_by : (x : Asked) (answer : DueAnswer) → AreAsked words x → Comes held x answer → Due held words answer
   due_by (check file) answer ask (checked given holds) = due.check file given ask holds
   due_by (plan script) answer ask (run given holds) = due.plan script given ask holds
   due_by (encode file home name values) answer ask (encoded given holds) = due.encode file home name values given ask holds
   due_by (decode file home name hex) answer ask (decoded given holds) = due.decode file home name hex given ask holds
+  due_by (compat old new home name) answer ask (compared given holds) = due.compat old new home name given ask holds
 
   -- what comes of what is asked for is due, and nothing else is
   pub only_due : (x : Asked) (answer : DueAnswer) → AreAsked words x → Comes held x answer → HoldsOnly (Due held words) answer
@@ -59,6 +61,7 @@ module _ (held : Held) (words : List (List ℕ)) where
       bytes_for (plan script) ask = tt
       bytes_for (encode file home name values) ask = bytes file home name values ask
       bytes_for (decode file home name hex) ask = tt
+      bytes_for (compat old new home name) ask = tt
 
       by_words : Either words → (answer : DueAnswer) × Due held words answer
       by_words (inl (x, ask)) = let some = some_coming held x (bytes_for x ask) in (some.0, due_by x some.0 ask some.1)

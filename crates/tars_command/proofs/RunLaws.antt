@@ -2,6 +2,9 @@
 use Rattle.std.proofs.Common.{◌≡◌, ◌≢◌, ℕ, inl, inr, List, Option, refl, sym, subst}
 use Rattle.std.specs.Prelude.{Ok, Err}
 use Rattle.std.specs.declared.vec.Vec.{Vec}
+use Rattle.command_words.specs.Asked.{Asked, AreAsked}
+use Rattle.command_words.specs.Words.{AreNoForm}
+use Rattle.command_words.proofs.CallerLemmas.{not_none}
 use Rattle.schema_files.specs.declared.load_fault.LoadFault.TheVariants as faults
 use Rattle.schema_files.proofs.CallerLemmas.{any_held}
 use Rattle.tars_base.specs.Contents.{Contents, Held, IsHeld, HoldsOnly}
@@ -10,11 +13,8 @@ use Rattle.tars_base.specs.declared.status.Status.TheVariants.{Done, Refused, Us
 use Rattle.tars_command.specs.Due.{DueAnswer, usage, refused, unread, done, Due}
 use Rattle.tars_command.specs.RunSteps.{EndsWith}
 use Rattle.tars_command.specs.Runs.{WritesDue, EndsAsDue, MayEnd}
-use Rattle.tars_command.specs.WordSteps.{Asked, AreAsked}
-use Rattle.tars_command.specs.Words.{AreNoForm}
 use Rattle.tars_command.proofs.Comings.{ForAsked, no_usage}
 use Rattle.tars_command.proofs.DueLaws.{Row, no_row, row, row_of, only_due, only_usage}
-use Rattle.tars_command.proofs.WordLaws.{not_none}
 
 -- an end that one answer may have, when nothing else is due
 only_ends : (held : Held) (words : List (List ℕ)) (answer : DueAnswer) (status : Status) → HoldsOnly (Due held words) answer → MayEnd answer status → EndsAsDue held words status
@@ -56,7 +56,7 @@ module _ (told : Option Contents) (words : List (List ℕ)) where
   not_usage held x ask answer (no_row none) = absurd (not_none words x ask none)
   not_usage held x ask answer (row y also given) = no_usage held y answer given
 
-  -- a failed read and want of memory come only where the words are a command
+  -- a failed read comes only where the words are a command
   pub run_unread : (x : Asked) → AreAsked words x → ForEnd ReadFault
   run_unread x ask = let any = any_held told in (any.0, any.1, tt, λ answer given. may_end answer (not_usage any.0 x ask answer (row_of any.0 words answer given)))
     where
@@ -66,11 +66,12 @@ module _ (told : Option Contents) (words : List (List ℕ)) where
       may_end (unread name) other = tt
       may_end (done text) other = tt
 
-  pub run_short : (x : Asked) → AreAsked words x → ForEnd Memory
-  run_short x ask = let any = any_held told in (any.0, any.1, tt, λ answer given. may_end answer (not_usage any.0 x ask answer (row_of any.0 words answer given)))
+  -- want of memory may come with any words
+  pub run_short : ForEnd Memory
+  run_short = let any = any_held told in (any.0, any.1, tt, λ answer given. may_end answer)
     where
-      may_end : (answer : DueAnswer) → answer ≢ usage → MayEnd answer Memory
-      may_end usage other = absurd (other refl)
-      may_end (refused line) other = tt
-      may_end (unread name) other = tt
-      may_end (done text) other = tt
+      may_end : (answer : DueAnswer) → MayEnd answer Memory
+      may_end usage = tt
+      may_end (refused line) = tt
+      may_end (unread name) = tt
+      may_end (done text) = tt

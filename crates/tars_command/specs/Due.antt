@@ -1,6 +1,7 @@
 -- What a command should do, by what the files hold.
 use Rattle.std.specs.Prelude.{ℕ, List}
 use Rattle.canonical_text.specs.Canonical.{canonical}
+use Rattle.command_words.specs.Words.{AskForCheck, AskForPlan, AskForEncode, AskForDecode, AskForCompat, AreNoForm}
 use Rattle.report_lines.specs.ReportText.{report_text_of}
 use Rattle.schema_files.specs.SchemaLoading as schema
 use Rattle.schema_files.specs.SchemaLoading.{SchemaAnswer, LoadsSchema}
@@ -9,11 +10,11 @@ use Rattle.session.specs.Loading.{LoadAnswer, Loads}
 use Rattle.session.specs.Planned.{planned}
 use Rattle.struct_files.specs.Answers as text
 use Rattle.struct_files.specs.Answers.{TextAnswer}
+use Rattle.struct_files.specs.Comparing.{ComparesFiles}
 use Rattle.struct_files.specs.Decoding.{DecodesFile}
 use Rattle.struct_files.specs.Encoding.{EncodesFile}
 use Rattle.schema_kept.specs.Written.{HoldBytes}
 use Rattle.tars_base.specs.Contents.{Held}
-use Rattle.tars_command.specs.Words.{AskForCheck, AskForPlan, AskForEncode, AskForDecode, AreNoForm}
 
 -- nothing but that the words are no command; a refusal line; a file that is needed and not there; all
 -- that is printed
@@ -35,14 +36,14 @@ due_of_script (load.loaded l) = done (report_text_of l (planned l))
 due_of_script (load.refused line) = refused line
 due_of_script (load.unread name) = unread name
 
--- of a struct's values a line
+-- of a struct a line
 abbrev pub due_of_text : TextAnswer → DueAnswer
 due_of_text (text.done line) = done line
 due_of_text (text.refused line) = refused line
 due_of_text (text.unread name) = unread name
 
 -- The words should be answered so. What an interface file gives is said by `LoadsSchema`, what a script gives by `Loads`,
--- what the values of a struct give by `EncodesFile` and `DecodesFile`.
+-- what the values of a struct give by `EncodesFile` and `DecodesFile`, what two versions of one give by `ComparesFiles`.
 pub data Due (held : Held) (words : List (List ℕ)) : DueAnswer → Type 0 where
   no_form : AreNoForm words → Due held words usage
   check :
@@ -57,6 +58,9 @@ pub data Due (held : Held) (words : List (List ℕ)) : DueAnswer → Type 0 wher
   decode :
       (file home name hex : List ℕ) (answer : TextAnswer) → AskForDecode words file home name hex
       → DecodesFile held file home name hex answer → Due held words (due_of_text answer)
+  compat :
+      (old new home name : List ℕ) (answer : TextAnswer) → AskForCompat words old new home name
+      → ComparesFiles held old new home name answer → Due held words (due_of_text answer)
 
 -- where `encode` is asked for, the files hold bytes when its interface file is read
 abbrev pub AskedOfBytes : Held → List (List ℕ) → Type 0

@@ -1,5 +1,4 @@
-pub mod Words
+pub mod Messages
 pub mod Due
 pub mod Runs
-pub mod WordSteps
 pub mod RunSteps

@@ -19,6 +19,7 @@ WritesDue held words old new _ = Unit {0}
 -- a run may end so where this is due
 abbrev pub MayEnd : DueAnswer → Status → Type 0
 MayEnd usage Usage = Unit {0}
+MayEnd usage Memory = Unit {0}
 MayEnd (refused line) Refused = Unit {0}
 MayEnd (refused line) WriteFault = Unit {0}
 MayEnd (done text) Done = Unit {0}

@@ -1,22 +1,23 @@
 //! A run over files and a sink. What it should do is said by `specs/Due.antt`.
 
-ghost use Rattle.std.specs.Prelude.{◌≡◌, ◌≢◌, ◌↔◌, ℕ, List, map, string_bytes, IfOk};
+ghost use Rattle.std.specs.Prelude.{◌≡◌, ◌≢◌, ◌⊎◌, ℕ, List, false, map, string_bytes, IfOk};
+ghost use Rattle.std.specs.List.{list_all};
+ghost use Rattle.command_words.specs.Asked.{check, plan, asked_by};
+ghost use Rattle.command_words.specs.Words.{AreNoForm, is_word};
 ghost use Rattle.session.specs.Loading.{IsLoaded};
 ghost use Rattle.session.specs.Planned.{planned};
 ghost use Rattle.report_lines.specs.ReportText.{report_text_of};
 ghost use Rattle.tars_base.specs.Causes.{HasCauseOf, Rose};
 ghost use Rattle.tars_base.specs.Contents.{Held, IsHeld};
-ghost use Rattle.tars_command.specs.Words.{AreNoForm};
-ghost use Rattle.tars_command.specs.WordSteps.{check, plan, asked_by};
 ghost use Rattle.tars_command.specs.Runs.{WritesDue, EndsAsDue, KeepsQuiet};
 ghost use Rattle.tars_command.specs.RunSteps.{IsComing, EndsWith};
 
-use crate::words::{OnStruct, Request, request_of};
+use command_words::{OldNew, OnStruct, Request, WordsFault, request_of};
 use idl_check::print;
 use schema_files::{LoadFault, load_schema};
 use session::{Loaded, Mode, load, report_text, run_plan};
 use std::alloc::{AllocError, Global};
-use struct_files::{decode_text, encode_text};
+use struct_files::{compat_text, decode_text, encode_text};
 use tars_base::{Failed, Files, Sink, Status, write_all};
 
 /// What `check FILE` prints.
@@ -63,6 +64,7 @@ fn text_of<F: Files>(alloc: Global, files: &mut F, request: Request) -> Result<V
         Request::Decode(OnStruct { file, of, values }) => {
             decode_text(alloc, files, file, of, values)
         }
+        Request::Compat(OldNew { old, new, of }) => compat_text(alloc, files, old, new, of),
     }
 }
 
@@ -86,7 +88,10 @@ pub fn run<F: Files, S: Sink>(alloc: Global, words: &[String], files: &mut F, ou
     ensures due { (held : Held) × IsHeld (F.contents files.old) held
         × WritesDue held (map string_bytes words.now) (S.written out.old) (S.written out.new) result
         × EndsAsDue held (map string_bytes words.now) result }
-    ensures usage { (result ≡ Status.Usage) ↔ AreNoForm (map string_bytes words.now) }
+    ensures usage { result ≡ Status.Usage → AreNoForm (map string_bytes words.now) }
+    ensures no_form { AreNoForm (map string_bytes words.now)
+        → (result ≡ Status.Usage) ⊎ (result ≡ Status.Memory) }
+    ensures no_word { list_all is_word (map string_bytes words.now) ≡ false → result ≡ Status.Usage }
     ensures quiet { KeepsQuiet (S.written out.old) (S.written out.new) result }
     ensures same { F.contents files.new ≡ F.contents files.old }
     // The causes of the faults. A count rises in no other run.
@@ -96,8 +101,10 @@ pub fn run<F: Files, S: Sink>(alloc: Global, words: &[String], files: &mut F, ou
     ensures no_write { result ≢ Status.WriteFault → S.faults out.new ≡ S.faults out.old }
     ensures net { result ≢ Status.NetFault }
 {
-    let Some(request) = request_of(words) else {
-        return Status::Usage;
+    let request = match request_of(alloc, words) {
+        Ok(request) => request,
+        Err(WordsFault::Usage) => return Status::Usage,
+        Err(WordsFault::Memory) => return Status::Memory,
     };
     match text_of(alloc, files, request) {
         Ok(text) => end_with(out, &text, Status::Done),

@@ -5,9 +5,8 @@
 
 mod command;
 mod laws;
-mod splitting;
-mod words;
+mod messages;
 
 pub use command::run;
 pub use laws::one_due_answer;
-pub use words::error_line;
+pub use messages::error_line;

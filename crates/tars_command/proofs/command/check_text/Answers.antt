@@ -1,4 +1,4 @@
-use Rattle.tars_command.specs.WordSteps.{check}
+use Rattle.command_words.specs.Asked.{check}
 use Rattle.tars_command.proofs.Comings.{no_memory, check_failed, check_printed}
 use Rattle.tars_command.proofs.command.check_text.Goals as goal
 
