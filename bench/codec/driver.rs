@@ -32,6 +32,7 @@ unsafe extern "C" {
 
 /// Encodes the value that a text says of an interface's last struct so many times, and returns the body's length.
 fn encode(interface: &str, text: &str, times: u32, out: &mut [u8]) -> usize {
+    assert!(text.len() < 1 << 32, "the library takes no longer ones");
     unsafe {
         codec_bench_encode(
             interface.as_ptr(),
@@ -47,6 +48,7 @@ fn encode(interface: &str, text: &str, times: u32, out: &mut [u8]) -> usize {
 
 /// Decodes a body so many times, and returns the length of its value's text.
 fn decode(interface: &str, body: &[u8], times: u32, out: &mut [u8]) -> usize {
+    assert!(body.len() < 1 << 32, "the library takes no longer ones");
     unsafe {
         codec_bench_decode(
             interface.as_ptr(),
