@@ -1,3 +1,4 @@
+pub mod ShapeLaws
 pub mod WalkLaws
 pub mod SlotLaws
 pub mod FormLaws

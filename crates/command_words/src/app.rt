@@ -1,7 +1,7 @@
 //! The commands of the program, as `clap` reads them.
 
-ghost use Rattle.std.specs.Prelude.{◌≡◌, ◌∷◌, [], IfOk, false};
-ghost use Rattle.clap.specs.Walk.{rule_of};
+ghost use Rattle.std.specs.Prelude.{◌≡◌, IfOk, false};
+ghost use Rattle.clap.specs.Walk.{rule_of, texts};
 ghost use Rattle.clap.specs.Words.{app_of, shape_of};
 ghost use Rattle.clap.specs.declared.builder.command.Command.TheViews.{out-Command};
 ghost use Rattle.command_words.specs.FormSteps.{shape_named, slot, forms, top};
@@ -17,30 +17,20 @@ fn slot<'a>(alloc: Global, name: &'a str) -> Arg<'a>
     Arg::new(alloc, name).required(true)
 }
 
-/// A command with one word.
-fn one_word<'a>(alloc: Global, name: &'a str, word: &'a str) -> Result<Command<'a>, AllocError>
-    ensures shape { IfOk result (λ command. shape_of command ≡ shape_named name.entry.now (word.entry.now ∷ [])) }
-    ensures local { IfOk result (λ command. (out-Command command).has_globals ≡ false) }
-{
-    Command::new(alloc, name).arg(slot(alloc, word))
-}
-
-/// A command with three words.
-fn three_words<'a>(
+/// A command that must have these words after it.
+fn command_of<'a>(
     alloc: Global,
     name: &'a str,
-    first: &'a str,
-    second: &'a str,
-    third: &'a str,
+    words: &[&'a str],
 ) -> Result<Command<'a>, AllocError>
-    ensures shape { IfOk result (λ command. shape_of command
-        ≡ shape_named name.entry.now (first.entry.now ∷ second.entry.now ∷ third.entry.now ∷ [])) }
+    ensures shape { IfOk result (λ command. shape_of command ≡ shape_named name.entry.now (texts words.now)) }
     ensures local { IfOk result (λ command. (out-Command command).has_globals ≡ false) }
 {
-    Command::new(alloc, name)
-        .arg(slot(alloc, first))?
-        .arg(slot(alloc, second))?
-        .arg(slot(alloc, third))
+    let mut command = Command::new(alloc, name);
+    for word in words {
+        command = command.arg(slot(alloc, word))?;
+    }
+    Ok(command)
 }
 
 /// The program, with no command yet.
@@ -58,9 +48,9 @@ pub(crate) fn app_of<'a>(alloc: Global) -> Result<Command<'a>, AllocError>
     ensures { IfOk result (λ app. app_of app ≡ forms) }
 {
     program(alloc)
-        .subcommand(one_word(alloc, "check", "FILE")?)?
-        .subcommand(one_word(alloc, "plan", "SCRIPT")?)?
-        .subcommand(three_words(alloc, "encode", "FILE", "STRUCT", "VALUES")?)?
-        .subcommand(three_words(alloc, "decode", "FILE", "STRUCT", "HEX")?)?
-        .subcommand(three_words(alloc, "compat", "OLD", "NEW", "STRUCT")?)
+        .subcommand(command_of(alloc, "check", &["FILE"])?)?
+        .subcommand(command_of(alloc, "plan", &["SCRIPT"])?)?
+        .subcommand(command_of(alloc, "encode", &["FILE", "STRUCT", "VALUES"])?)?
+        .subcommand(command_of(alloc, "decode", &["FILE", "STRUCT", "HEX"])?)?
+        .subcommand(command_of(alloc, "compat", &["OLD", "NEW", "STRUCT"])?)
 }
