@@ -1,0 +1,4 @@
+pub mod BadLengths
+pub mod Cuts
+pub mod Histories
+pub mod Readings
