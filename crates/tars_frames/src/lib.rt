@@ -15,5 +15,5 @@ mod packet;
 
 pub use frame_fault::FrameFault;
 pub use frames::Frames;
-pub use laws::{one_bad_length, one_reading};
+pub use laws::{framed_is_packet, limits, one_bad_length, one_reading};
 pub use packet::Packet;
