@@ -1,7 +1,7 @@
 //! The whole packets at the start of some bytes.
 
-ghost use Rattle.std.specs.Prelude.{◌≡◌, ◌++◌, ◌≤◌, ◌<◌, ◌-◌, true, false, length, drop, take, IfOk, MatchOption, MatchResult};
-ghost use Rattle.tars_frames.specs.Streams.{IsPacket, IsReading, HasNoPacket, LENGTH_BYTES, LONGEST, first_length, joined};
+ghost use Rattle.std.specs.Prelude.{◌≡◌, ◌++◌, ◌≤◌, ◌<◌, length, IfOk, MatchOption, MatchResult};
+ghost use Rattle.tars_frames.specs.Streams.{IsPacket, HasNoPacket, LENGTH_BYTES, LONGEST, first_length};
 ghost use Rattle.tars_frames.specs.Cutting.{is_length};
 ghost use Rattle.tars_frames.specs.Waiting.{IsCutOff, IsAdded};
 

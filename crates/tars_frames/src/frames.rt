@@ -1,6 +1,6 @@
-ghost use Rattle.std.specs.Prelude.{◌≡◌, ◌↔◌, true, false, ℕ, List, [], ◌∷◌, ◌++◌, length, IfOk, IsOk, OnErr, MatchResult, slice_get};
+ghost use Rattle.std.specs.Prelude.{◌≡◌, false, ℕ, List, [], ◌++◌, length, IfOk, IsOk, MatchResult, slice_get};
 ghost use Rattle.std.specs.Option.{option_to_list};
-ghost use Rattle.tars_frames.specs.Streams.{HasNoPacket, LONGEST};
+ghost use Rattle.tars_frames.specs.Streams.{LONGEST, joined};
 ghost use Rattle.tars_frames.specs.Cutting.{is_refused, packets_of};
 ghost use Rattle.tars_frames.specs.Feeding.{IsAt, Tells, OnMemory, UnlessMemory, fed};
 ghost use Rattle.tars_frames.specs.Waiting.{Judges, Steps, TakesOne};
@@ -54,9 +54,10 @@ impl Frames {
         })
     }
 
-    /// Takes a piece of the stream.
+    /// Takes a piece of the stream, and the packets that get whole by it. After a bad length these can be taken, and what
+    /// was fed up to it is in `rest`; where memory runs out nothing changed.
     pub fn feed(&mut self, alloc: Global, piece: &[u8]) -> Result<(), FrameFault>
-        // What was fed stays, the first refused piece included, and no later one.
+        // What is fed stays, up to the first piece that is refused.
         ensures kept { (stream : List ℕ) (given : List (List ℕ)) → IsAt LONGEST stream given self.old
             → UnlessMemory result (IsAt LONGEST (fed LONGEST stream piece.now) given self.new) }
         // The bad length is told as soon as its four bytes are there, and by each later call.
@@ -81,7 +82,9 @@ impl Frames {
 
     /// What was fed after the packets that were given.
     pub fn rest(&self) -> &[u8]
-        ensures { result.now ≡ self.now.rest }
+        ensures value { result.now ≡ self.now.rest }
+        ensures left { (stream : List ℕ) (given : List (List ℕ)) → IsAt LONGEST stream given self.now
+            → stream ≡ joined given ++ result.now }
     {
         &self.bytes[self.start..]
     }
