@@ -1,10 +1,10 @@
 -- What the steps of `Frames` by what waits say of the stream.
 use Rattle.std.proofs.Common.{◌≡◌, ◌+◌, ℕ, Bool, true, false, cond, List, [], ◌∷◌, ◌++◌, length, refl, sym, ap, ◌∙◌, arith, subst, append_assoc, append-nil, length-append, Option, None, Some, Result, Ok, Err}
-use Rattle.std.specs.Option.{option_to_list}
+use Rattle.std.specs.Option.{IfSome, option_to_list}
 use Rattle.std.specs.List.{slice_get}
 use Rattle.tars_frames.specs.declared.frame_fault.FrameFault.{FrameFault}
 use Rattle.tars_frames.specs.declared.frame_fault.FrameFault.TheVariants.{BadLength, Memory}
-use Rattle.tars_frames.specs.Streams.{first_length, joined, IsReading, IsBadAt}
+use Rattle.tars_frames.specs.Streams.{IsPacket, first_length, joined, IsReading, IsBadAt}
 use Rattle.tars_frames.specs.Cutting.{is_refused, says_bad, packets_of, rest_of}
 use Rattle.tars_frames.specs.Feeding.{Kept, IsAt, Tells, UnlessMemory, OnMemory, fed, told}
 use Rattle.tars_frames.specs.Waiting.{Judges, Steps, TakesOne, fed_kept}
@@ -154,3 +154,8 @@ step_taken most piece old new (Ok done) good e j =
 step_taken most piece old new (Err (BadLength at number)) good e j =
     (e ∙ ap (λ (b : Bool). record { rest = cond b old.rest (old.rest ++ piece); place = old.place }) (sym good), j)
 step_taken most piece old new (Err Memory) good e j = absurd j
+
+pub next_taken : (most : ℕ) (old new : Kept) (o : Option (List ℕ)) → TakesOne most old new o
+    → IfSome o (λ packet. IsPacket most packet × (old.rest ≡ packet ++ new.rest))
+next_taken most old new None s = tt
+next_taken most old new (Some packet) s = (s.0, s.1)

@@ -1,6 +1,6 @@
-ghost use Rattle.std.specs.Prelude.{◌≡◌, false, ℕ, List, [], ◌++◌, length, IfOk, IsOk, MatchResult, slice_get};
+ghost use Rattle.std.specs.Prelude.{◌≡◌, false, ℕ, List, [], ◌++◌, length, IfOk, IfSome, IsOk, MatchResult, slice_get};
 ghost use Rattle.std.specs.Option.{option_to_list};
-ghost use Rattle.tars_frames.specs.Streams.{LONGEST, joined};
+ghost use Rattle.tars_frames.specs.Streams.{IsPacket, LONGEST, joined};
 ghost use Rattle.tars_frames.specs.Cutting.{is_refused, packets_of};
 ghost use Rattle.tars_frames.specs.Feeding.{IsAt, Tells, OnMemory, UnlessMemory, fed};
 ghost use Rattle.tars_frames.specs.Waiting.{Judges, Steps, TakesOne};
@@ -76,6 +76,7 @@ impl Frames {
             → result ≡ slice_get (packets_of LONGEST stream) (length given) }
         ensures kept { (stream : List ℕ) (given : List (List ℕ)) → IsAt LONGEST stream given self.old
             → IsAt LONGEST stream (given ++ option_to_list result) self.new }
+        ensures taken { IfSome result (λ packet. IsPacket LONGEST packet × (self.old.rest ≡ packet ++ self.new.rest)) }
     {
         self.take_one()
     }
