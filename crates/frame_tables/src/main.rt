@@ -2,7 +2,8 @@
 //! was worked by hand from docs/PROTOCOL.md ("Packets"), or by the reader of tests/frame_rows.py; comments and empty lines are
 //! printed as they are.
 //!
-//! Given a file and a length, the program feeds the file in pieces of this length and counts its packets, so that cutting can be timed.
+//! Given a file, a length and a count, the program feeds the file so many times in pieces of this length and counts the packets, so
+//! that cutting can be timed.
 #![tactic(auto)]
 
 mod counting;
@@ -36,11 +37,12 @@ fn print_rows(rt: &HostRuntime, name: &str) -> io::Result<()> {
     Ok(())
 }
 
-/// Prints how many packets a file has.
-fn print_count(rt: &HostRuntime, name: &str, length: &str) -> io::Result<()> {
+/// Prints how many packets a stream has that is a file so many times.
+fn print_count(rt: &HostRuntime, name: &str, length: &str, times: &str) -> io::Result<()> {
     let bytes = fs::read(rt, name)?;
     let length = length.parse::<usize>().unwrap_or(1);
-    match count_packets(rt.alloc(), &bytes, length) {
+    let times = times.parse::<u32>().unwrap_or(1);
+    match count_packets(rt.alloc(), &bytes, length, times) {
         Ok(packets) => println!(rt; "{name}: {packets} packets"),
         Err(_) => println!(rt; "{name}: refused"),
     }
@@ -49,8 +51,8 @@ fn print_count(rt: &HostRuntime, name: &str, length: &str) -> io::Result<()> {
 fn main(rt: HostRuntime) -> io::Result<()> {
     let words = env::args(&rt)?.skip(1).collect::<Vec<String>>(rt.alloc())?;
     match words.as_slice() {
-        [name, length] => print_count(&rt, name, length),
+        [name, length, times] => print_count(&rt, name, length, times),
         [name] => print_rows(&rt, name),
-        _ => println!(rt; "usage: frame_tables FILE [LENGTH]"),
+        _ => println!(rt; "usage: frame_tables FILE [LENGTH TIMES]"),
     }
 }
