@@ -7,11 +7,8 @@ use Rattle.tars_frames.specs.declared.frame_fault.FrameFault.TheVariants.{BadLen
 use Rattle.tars_frames.specs.Cutting.{is_length}
 use Rattle.tars_frames.specs.Feeding.{Kept, told}
 use Rattle.tars_frames.specs.Waiting.{IsCut, IsCutOff, IsAdded, TakesOne, Judges}
-use Rattle.tars_frames.proofs.Readings.{joined-append, all-append, reading_none, nothing_empty, carried, packets_are, rest_is}
+use Rattle.tars_frames.proofs.Readings.{joined-append, all-append, carried, packets_are, rest_is}
 use Rattle.tars_frames.proofs.BadLengths.{refused_by_rest}
-
-pub cut_empty : IsCut [] 0 0 []
-cut_empty = record { before = omega arith; within = omega arith; reading = reading_none LONGEST [] (nothing_empty LONGEST) }
 
 -- whole packets stand between where they begin and where they end
 pub packets_span : (bytes : List ℕ) (start end : ℕ) (packets : List (List ℕ)) → IsCut bytes start end packets

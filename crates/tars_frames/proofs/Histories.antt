@@ -11,9 +11,6 @@ use Rattle.tars_frames.specs.Waiting.{Judges, Steps, TakesOne, fed_kept}
 use Rattle.tars_frames.proofs.Readings.{joined-append, all-append, the_reading, packets_are, rest_is, reading_none, reading_some}
 use Rattle.tars_frames.proofs.BadLengths.{refused_bad, bad_refused}
 
-pub starts : (most : ℕ) → IsAt most [] [] (record { rest = []; place = 0 })
-starts most = record { bytes = refl; whole = tt; place_is = refl }
-
 -- the packets of what waits follow those that were given
 pub stream_reads : (most : ℕ) (stream rest : List ℕ) (given packets : List (List ℕ)) (kept : Kept) → IsAt most stream given kept
     → IsReading most kept.rest packets rest → IsReading most stream (given ++ packets) rest
