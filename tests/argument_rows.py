@@ -3,7 +3,7 @@
 
     python3 tests/argument_rows.py
 
-writes `arguments.rows` of `crates/law_tables/data` and its part of that crate's `stdout`; where nothing has changed,
+writes `arguments.rows` of `crates/value_tables/data` and its part of that crate's `stdout`; where nothing has changed,
 `git diff` shows nothing after it. A body is read by rows/body_reader.py under the parameters that are not `out`, each
 required and under its number from 1 (docs/PROTOCOL.md, "Bodies").
 """

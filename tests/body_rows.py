@@ -3,7 +3,7 @@
 
     python3 tests/body_rows.py
 
-writes six files of `crates/law_tables/data` and their parts of that crate's `stdout`; where nothing has changed,
+writes six files of `crates/value_tables/data` and their parts of that crate's `stdout`; where nothing has changed,
 `git diff` shows nothing after it. What a body comes to is told by rows/body_reader.py, which shares nothing with the
 crates. Beside the bodies made by hand each table has some that are spelled at random, and these with a byte changed,
 put in, left out or cut off. The seeds are fixed.
@@ -21,7 +21,7 @@ from rows.value_reader import printed
 
 
 def outcome(file: str, body: bytes) -> str:
-    """What a body comes to, as law_tables prints it."""
+    """What a body comes to, as value_tables prints it."""
     struct = File(file).last_struct()
     try:
         values = members_of(struct.members, Body(body).fields())

@@ -3,7 +3,7 @@
 
     python3 tests/value_rows.py
 
-writes `value_texts.rows` of `crates/law_tables/data` and its part of that crate's `stdout`; where nothing has changed,
+writes `value_texts.rows` of `crates/value_tables/data` and its part of that crate's `stdout`; where nothing has changed,
 `git diff` shows nothing after it. What a text comes to is told by rows/value_reader.py, which shares nothing with the
 crates: the value as it is printed and how many bytes were read, or the fault and its offset. Beside the texts made by
 hand there are some with a byte changed, put in or left out at random, by a fixed seed.

@@ -3,7 +3,7 @@
 
     python3 tests/version_rows.py
 
-writes two files of `crates/law_tables/data` and their parts of that crate's `stdout`; where nothing has changed,
+writes two files of `crates/value_tables/data` and their parts of that crate's `stdout`; where nothing has changed,
 `git diff` shows nothing after it. Rows `compat OLD => NEW` come to agreement or its first reason, rows
 `carry OLD => NEW => TEXT` to the bytes that are written for a value and what is read from them. Both are told by
 rows/version_rules.py and rows/body_reader.py, which share nothing with the crates. The seed is fixed.

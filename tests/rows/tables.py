@@ -1,6 +1,6 @@
 """What the scripts that write tables share: the types of an interface file, and tables of rows.
 
-A table is a file of `crates/law_tables/data` with a row or a comment on each line, and the part of that crate's
+A table is a file of `crates/value_tables/data` with a row or a comment on each line, and the part of that crate's
 `stdout` with what each of these lines comes to. Nothing here is taken from the crates. Of the interface language
 (docs/IDL.md) only what the rows need is read: one module, no comments, no escapes, no names with `::`.
 """
@@ -10,7 +10,7 @@ import pathlib
 import re
 from typing import NamedTuple
 
-CRATE = pathlib.Path(__file__).resolve().parents[2] / "crates" / "law_tables"
+CRATE = pathlib.Path(__file__).resolve().parents[2] / "crates" / "value_tables"
 # The least and the greatest number of each type of whole numbers.
 RANGES = {
     "byte": (-(2**7), 2**7 - 1),

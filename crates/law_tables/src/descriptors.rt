@@ -5,12 +5,14 @@ ghost use Rattle.law_tables.specs.Interfaces.{plain_interface};
 ghost use Rattle.tars_model.specs.Declarations.{nothing_declared, with_interface};
 ghost use Rattle.tars_model.specs.Schemas.{InterfaceFits};
 
-use crate::arguments::MAX_PARAMS;
-use crate::page::Page;
+use row_pages::Page;
 use std::alloc::{AllocError, Global};
 use tars_model::{
     Boxed, FuncDesc, InterfaceDesc, List, Member, Name, Param, Schema, Ty, args_of, reply_of,
 };
+
+/// The most parameters of a function.
+const MAX_PARAMS: usize = 64;
 
 /// `map<string, byte>`
 fn map_type(alloc: Global) -> Result<Ty, AllocError> {

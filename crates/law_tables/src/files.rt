@@ -3,10 +3,10 @@
 ghost use Rattle.std.specs.Prelude.{◌<◌, ◌^◌, length};
 ghost use Rattle.idl_parse.specs.Tokens.{Tokens as TokensOf};
 
-use crate::page::Page;
 use crate::shape::put_shape;
 use crate::tokens::put_lex_fault;
 use idl_parse::{Ast, ParseFault, Token, lex, parse};
+use row_pages::Page;
 use std::str;
 
 /// Adds an include's name, and `-` for one that the file does not have.

@@ -1,7 +1,6 @@
 //! Files and sinks in memory, of which calls fail, and how a run ends.
 
-use crate::page::Page;
-use crate::row_text::split_word;
+use row_pages::{Page, split_word};
 use std::alloc::{AllocError, Global};
 use std::str;
 use tars_base::{Files, MemFiles, MemSink, NamedFile, ReadFault, Sink, Status, write_all};

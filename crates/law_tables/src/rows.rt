@@ -2,18 +2,13 @@
 
 ghost use Rattle.std.specs.Prelude.{◌<◌, ◌^◌, length};
 
-use crate::arguments::put_arguments;
-use crate::codec::put_codec;
 use crate::descriptors::{put_interfaces, put_members};
 use crate::files::put_file;
 use crate::outside::{put_copy, put_reads, put_status, put_writes};
-use crate::page::Page;
-use crate::row_text::{bytes_of, split_word};
-use crate::schemas::{put_decode, put_default, put_value};
 use crate::tokens::{put_mebibyte, put_tokens_of};
-use crate::versions::{put_carry, put_compat};
 use crate::walk::put_walk;
 use idl_parse::LexWhy;
+use row_pages::{Page, Rows, bytes_of, split_word};
 use tars_wire::scan;
 
 /// The most bytes that a row stands for.
@@ -75,19 +70,12 @@ fn put_digits(page: &mut Page, word: &str, text: &str) {
     }
 }
 
-/// A row that is asked of files and sinks, of descriptors or of values; else a comment, which is given back.
+/// A row that is asked of files and sinks or of descriptors; else a comment, which is given back.
 fn put_plain(page: &mut Page, row: &str, word: &str, text: &str) {
     match word {
         "mebibyte" => put_mebibyte(page, text),
         "members" => put_members(page, text),
         "interfaces" => put_interfaces(page),
-        "default" => put_default(page, text),
-        "decode" => put_decode(page, text),
-        "arguments" => put_arguments(page, text),
-        "compat" => put_compat(page, text),
-        "carry" => put_carry(page, text),
-        "value" => put_value(page, text),
-        "codec" => put_codec(page, text),
         "reads" => put_reads(page, text),
         "writes" => put_writes(page, text),
         "copies" => put_copy(page, text),
@@ -96,13 +84,18 @@ fn put_plain(page: &mut Page, row: &str, word: &str, text: &str) {
     }
 }
 
-/// Adds what comes of a row.
-pub fn put_row(page: &mut Page, row: &str) {
-    let (word, text) = split_word(row);
-    match word {
-        "scan" | "walk" => put_digits(page, word, text),
-        "lex" | "parse" | "fault" | "includes" | "entries" => put_bytes(page, word, text),
-        "reason" => put_reason(page, text),
-        _ => put_plain(page, row, word, text),
+/// Rows that are asked of bytes, of interface text and of what stands outside.
+pub struct LawRows;
+
+impl Rows for LawRows {
+    /// Adds what comes of a row.
+    fn put_row(page: &mut Page, row: &str) {
+        let (word, text) = split_word(row);
+        match word {
+            "scan" | "walk" => put_digits(page, word, text),
+            "lex" | "parse" | "fault" | "includes" | "entries" => put_bytes(page, word, text),
+            "reason" => put_reason(page, text),
+            _ => put_plain(page, row, word, text),
+        }
     }
 }

@@ -2,9 +2,9 @@
 //! type and a literal stand by the name of their variant, and after `@` is the span of a word that
 //! the tree keeps as a span.
 
-use crate::page::Page;
 use idl_parse::Span;
 use idl_parse::tree::*;
+use row_pages::Page;
 use std::str;
 
 /// The bytes of a span.

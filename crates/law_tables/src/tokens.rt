@@ -2,8 +2,8 @@
 
 ghost use Rattle.std.specs.Prelude.{◌<◌, ◌^◌, length};
 
-use crate::page::Page;
 use idl_parse::{LexFault, Token, lex};
+use row_pages::Page;
 
 /// How many bytes a mebibyte has.
 const MEBIBYTE: usize = 1 << 20;

@@ -4,7 +4,7 @@ ghost use Rattle.std.specs.Prelude.{◌≡◌, ◌<◌, ◌^◌, length, IsSome}
 ghost use Rattle.tars_wire.specs.Heads.{opens};
 ghost use Rattle.tars_wire.specs.Left.{HasEntered, is_number_type, is_text_type};
 
-use crate::page::Page;
+use row_pages::Page;
 use std::str;
 use tars_wire::{Cursor, Head, WireType, scan};
 

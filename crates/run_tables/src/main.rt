@@ -13,27 +13,13 @@ mod struct_case;
 mod told;
 mod version_case;
 
-use rows::outcome_of;
-use std::{env, fs, io, str};
-
-/// Prints what comes of each row of a table.
-fn print_rows(rt: &HostRuntime, name: &str, bytes: &[u8]) -> io::Result<()> {
-    let Ok(text) = str::from_utf8(bytes) else {
-        return println!(rt; "{name}: no text");
-    };
-    for row in text.lines() {
-        match outcome_of(rt.alloc(), row) {
-            Ok(outcome) => println!(rt; "{outcome}")?,
-            Err(_) => println!(rt; "no memory")?,
-        }
-    }
-    Ok(())
-}
+use row_pages::print_table;
+use rows::RunRows;
+use std::{env, io};
 
 fn main(rt: HostRuntime) -> io::Result<()> {
     for name in env::args(&rt)?.skip(1) {
-        let bytes = fs::read(&rt, &name)?;
-        print_rows(&rt, &name, &bytes)?;
+        print_table::<RunRows>(&rt, &name)?;
     }
     Ok(())
 }

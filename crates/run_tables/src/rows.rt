@@ -6,6 +6,7 @@ use crate::row_text::text_of;
 use crate::struct_case::{of_members, of_struct};
 use crate::told::told;
 use crate::version_case::{compare_members, compare_struct};
+use row_pages::{Page, Rows};
 use std::alloc::{AllocError, Global};
 use tars_base::Status;
 
@@ -119,7 +120,7 @@ fn events(alloc: Global, text: &str) -> Result<String, AllocError> {
 }
 
 /// What comes of a row. One that asks for nothing is a comment, and is given back.
-pub fn outcome_of(alloc: Global, row: &str) -> Result<String, AllocError> {
+fn outcome_of(alloc: Global, row: &str) -> Result<String, AllocError> {
     let (word, text) = row.split_once(' ').unwrap_or((row, ""));
     match word {
         "run" => outcome(alloc, &no_fault(text)),
@@ -138,5 +139,18 @@ pub fn outcome_of(alloc: Global, row: &str) -> Result<String, AllocError> {
         "compat" => compare_members(alloc, text),
         "compat-of" => compare_struct(alloc, text),
         _ => String::from_str(alloc, row),
+    }
+}
+
+/// Rows that are runs over files and a sink in memory.
+pub struct RunRows;
+
+impl Rows for RunRows {
+    /// Adds what comes of a row.
+    fn put_row(page: &mut Page, row: &str) {
+        match outcome_of(page.alloc(), row) {
+            Ok(outcome) => page.add(&outcome),
+            Err(_) => page.fail(),
+        }
     }
 }

@@ -6,10 +6,10 @@ ghost use Rattle.tars_model.specs.Members.{IsBelowNext, HaveRisingTags};
 ghost use Rattle.tars_model.specs.Values.{fit_members};
 ghost use Rattle.tars_decode.specs.Decoding.{DefaultFits, MembersFit};
 
-use crate::page::Page;
 use crate::structs::{MOST, put_refuse};
 use crate::values::{put_hex, put_values};
 use bytes::BytesMut;
+use row_pages::Page;
 use tars_codec::{decode, encode};
 use tars_model::{Member, Schema, Value, fits};
 

@@ -1,9 +1,16 @@
 //! The words of a row, and the bytes that its text stands for.
 
+ghost use Rattle.std.specs.Prelude.{◌≡◌, IfOk};
+ghost use Rattle.std.specs.List.{before_first, after_first};
+ghost use Rattle.row_pages.specs.RowWords.{is_space, is_tilde};
+
 use std::alloc::{AllocError, Global};
 
 /// The first word of a text, and what stands after it.
-pub fn split_word(text: &str) -> (&str, &str) {
+pub fn split_word(text: &str) -> (&str, &str)
+    ensures word { result.0.now ≡ before_first is_space text.now }
+    ensures rest { result.1.now ≡ after_first is_space text.now }
+{
     text.split_once(' ').unwrap_or((text, ""))
 }
 
@@ -51,7 +58,9 @@ fn add_escaped(bytes: &mut Vec<u8>, text: &str) -> Result<(), AllocError> {
 
 /// The bytes of a row's text. `~n`, `~t`, `~r` and `~xHH` stand for a byte, and `~N(PIECE)` for so many
 /// times the piece.
-pub fn bytes_of(alloc: Global, text: &str) -> Result<Vec<u8>, AllocError> {
+pub fn bytes_of(alloc: Global, text: &str) -> Result<Vec<u8>, AllocError>
+    ensures plain { before_first is_tilde text.now ≡ text.now → IfOk result (λ bytes. bytes.items ≡ text.now) }
+{
     let Some((prefix, more)) = text.split_once('~') else {
         return Vec::from_slice(alloc, text.as_bytes());
     };

@@ -3,11 +3,10 @@
 ghost use Rattle.std.specs.Prelude.{◌<◌, ◌^◌, [], ◌∷◌, length};
 ghost use Rattle.idl_parse.specs.Tokens.{Tokens as TokensOf};
 
-use crate::page::Page;
-use crate::row_text::bytes_of;
 use crate::structs::{Asked, put_last_struct};
 use idl_check::{CheckFault, check};
 use idl_parse::{Ast, Token, lex, parse};
+use row_pages::{Page, bytes_of};
 use std::slice;
 use tars_model::Schema;
 

@@ -1,6 +1,6 @@
 //! Values as they are shown. Of a long text or long bytes the first part is shown.
 
-use crate::page::Page;
+use row_pages::Page;
 use std::str;
 use tars_model::Value;
 

@@ -3,8 +3,8 @@
 ghost use Rattle.std.specs.Prelude.{◌≡◌, true};
 ghost use Rattle.tars_model.specs.Values.{fits as fits_type};
 
-use crate::page::Page;
 use crate::values::put_values;
+use row_pages::Page;
 use std::str;
 use tars_decode::{Misfit, Refuse, decode};
 use tars_model::{Schema, Ty, Value, default_of, fits};

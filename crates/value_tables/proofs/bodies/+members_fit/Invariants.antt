@@ -1,5 +1,5 @@
 use Rattle.std.proofs.Common.{length}
-use Rattle.law_tables.proofs.bodies.+members_fit.Given as goal
+use Rattle.value_tables.proofs.bodies.+members_fit.Given as goal
 
 abbrev pub decreases-members_fit : goal.decreases-members_fit
 decreases-members_fit l = length l.members.now

@@ -2,10 +2,10 @@
 //! one writes.
 
 use crate::bodies::body_of;
-use crate::page::Page;
 use crate::schemas::{put_file, schema_of, two_texts};
 use crate::structs::{Asked, MOST, last_struct, put_refused};
 use bytes::BytesMut;
+use row_pages::Page;
 use tars_model::{Schema, Ty, Value};
 use tars_versions::{Path, ReasonKind, compatible};
 use value_text::read_value;

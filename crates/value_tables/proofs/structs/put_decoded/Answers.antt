@@ -6,7 +6,7 @@ use Rattle.tars_model.specs.declared.member.Member.{Member}
 use Rattle.tars_model.specs.declared.ty.Ty.TheVariants as types
 use Rattle.tars_model.specs.declared.ty.Ty.TheVariants.{outs-Struct}
 use Rattle.tars_model.specs.declared.value.Value.TheVariants as values
-use Rattle.law_tables.proofs.structs.put_decoded.Goals as goal
+use Rattle.value_tables.proofs.structs.put_decoded.Goals as goal
 
 pub decode-requires-clause-members : goal.decode-requires-clause-members
 decode-requires-clause-members c = rw c.members_at.ensures (struct_members_fit c.order.ensures.rules c.args.number)

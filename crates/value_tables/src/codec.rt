@@ -1,8 +1,7 @@
 //! Fields as a row has them.
 
 use crate::bodies::put_coded;
-use crate::page::Page;
-use crate::row_text::{bytes_of, split_word};
+use row_pages::{Page, bytes_of, split_word};
 use std::alloc::{AllocError, Global};
 use tars_model::{Boxed, Bytes8, List, Member, Name, Pair, Ty, Value};
 

@@ -1,15 +1,15 @@
 //! The arguments of a call, read from the body of its request.
 
 use crate::bodies::{defaults_fit, tags_rise};
-use crate::page::Page;
 use crate::schemas::{schema_of, two_texts};
 use crate::structs::{MOST, put_refuse, put_text};
+use row_pages::Page;
 use std::str;
 use tars_decode::decode;
 use tars_model::{FuncDesc, Member, Schema, Value, args_of, fits};
 
 /// The most parameters of a function.
-pub const MAX_PARAMS: usize = 64;
+const MAX_PARAMS: usize = 64;
 
 /// Adds an argument by the name of its parameter.
 fn put_argument(page: &mut Page, schema: &Schema, member: &Member, value: &Value) {
