@@ -113,10 +113,11 @@ fn add_three(alloc: Global, schema: &mut Schema) -> Result<[u32; 3], AllocError>
     Ok([first, second, third])
 }
 
-/// `interfaces`: the numbers of the first three that are added.
-pub fn put_interfaces(page: &mut Page) {
-    let mut schema = Schema::empty(page.alloc());
-    match add_three(page.alloc(), &mut schema) {
+/// Adds the numbers of the first three interfaces.
+fn put_three(page: &mut Page, schema: &mut Schema)
+    requires { schema.old ≡ nothing_declared }
+{
+    match add_three(page.alloc(), schema) {
         Ok(numbers) => {
             let [first, second, third] = numbers;
             let kept = schema.interfaces().len();
@@ -124,4 +125,10 @@ pub fn put_interfaces(page: &mut Page) {
         }
         Err(_) => page.fail(),
     }
+}
+
+/// `interfaces`: the numbers of the first three that are added.
+pub fn put_interfaces(page: &mut Page) {
+    let mut schema = Schema::empty(page.alloc());
+    put_three(page, &mut schema);
 }

@@ -60,14 +60,17 @@ fn first_func(schema: &Schema) -> Option<&FuncDesc> {
     interface.funcs.as_slice().first()
 }
 
+fn put_of_schema(page: &mut Page, schema: &Schema, body: &[u8]) {
+    match first_func(schema) {
+        Some(func) => put_call(page, schema, func, body),
+        None => page.add("no function"),
+    }
+}
+
 /// Adds what a body says as the arguments of a file's function.
 fn put_of_file(page: &mut Page, file: &[u8], body: &[u8]) {
-    let Some(schema) = schema_of(page, file) else {
-        return;
-    };
-    match first_func(&schema) {
-        Some(func) => put_call(page, &schema, func, body),
-        None => page.add("no function"),
+    if let Some(schema) = schema_of(page, file) {
+        put_of_schema(page, &schema, body);
     }
 }
 

@@ -108,15 +108,16 @@ pub fn body_of(
     Some(bytes)
 }
 
-/// Adds what comes of values under members: the bytes that spell them, and the values that are read from these.
-pub fn put_coded(page: &mut Page, members: &[Member], values: &[Value]) {
-    let schema = Schema::empty(page.alloc());
-    if tags_rise(members)
-        && defaults_fit(&schema, members)
-        && members_fit(&schema, members, values)
-    {
-        put_body(page, &schema, members, values);
+fn put_under(page: &mut Page, schema: &Schema, members: &[Member], values: &[Value]) {
+    if tags_rise(members) && defaults_fit(schema, members) && members_fit(schema, members, values) {
+        put_body(page, schema, members, values);
     } else {
         page.add("no values of the members");
     }
+}
+
+/// Adds what comes of values under members: the bytes that spell them, and the values that are read from these.
+pub fn put_coded(page: &mut Page, members: &[Member], values: &[Value]) {
+    let schema = Schema::empty(page.alloc());
+    put_under(page, &schema, members, values);
 }

@@ -42,14 +42,18 @@ fn put_last_agreement(page: &mut Page, old: &Schema, new: &Schema) {
     }
 }
 
+/// Adds whether the last struct of an old schema agrees with that of a new file.
+fn put_file_agreement(page: &mut Page, old: &Schema, new: &[u8]) {
+    if let Some(new) = schema_of(page, new) {
+        put_last_agreement(page, old, &new);
+    }
+}
+
 /// `compat FILE => FILE`: whether the last struct of an old file agrees with that of a new one.
 pub fn put_compat(page: &mut Page, text: &str) {
     let (old, new) = two_texts(text);
-    let Some(old) = schema_of(page, old.as_bytes()) else {
-        return;
-    };
-    if let Some(new) = schema_of(page, new.as_bytes()) {
-        put_last_agreement(page, &old, &new);
+    if let Some(old) = schema_of(page, old.as_bytes()) {
+        put_file_agreement(page, &old, new.as_bytes());
     }
 }
 
