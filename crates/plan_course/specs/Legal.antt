@@ -1,0 +1,90 @@
+-- What holds after every list of events (docs/SCRIPTS.md, "Events" and "Reports"). Calls go by their places from 0, packets of a
+-- node by their numbers from 1.
+use Rattle.std.specs.Prelude.{◌≡◌, ◌≤◌, ◌↔◌, ℕ, suc, ◌+◌, Bool, true, false, ◌==◌, if◌then◌else◌, Option, Some, None, List, [], length, take, map, filter_map, slice_get}
+use Rattle.tars_frames.specs.Streams.{LONGEST}
+use Rattle.tars_frames.specs.Cutting.{packets_of}
+use Rattle.session_model.specs.Sessions.{WIDTH}
+use Rattle.session_model.specs.declared.link_log.GotFate.{GotFate}
+use Rattle.session_model.specs.declared.link_log.GotFate.TheVariants.{Used}
+use Rattle.session_model.specs.declared.link_log.GotRow.{GotRow}
+use Rattle.session_model.specs.declared.link_log.SentRow.{SentRow}
+use Rattle.session_model.specs.declared.loaded.CallSpec.{CallSpec}
+use Rattle.session_model.specs.declared.report.Refusal.TheVariants as refusal
+use Rattle.plan_course.specs.Packets.{Request, Response, read_request, read_response}
+use Rattle.plan_course.specs.Servants.{Setting, answer_frame}
+use Rattle.plan_course.specs.Courses.{Fate, replied, closed, Life, Stage, refused, opened, Noted, Link, Course, link_of, packets_to, requests_stream, answers_stream, named_id, in_flight, sent_row}
+
+abbrev pub IsCallAt : Course → ℕ → Noted → Type 0
+IsCallAt c k call = slice_get c.calls k ≡ Some call
+
+abbrev pub IsLinkAt : Course → ℕ → Link → Type 0
+IsLinkAt c node link = link_of node c.links ≡ Some link
+
+-- What was read.
+
+-- on a link: the requests that a node accepted are those that the bytes it has read say, its answers are those to the requests
+-- that it took, and the packets that the caller got are those that the bytes it has read say
+pub record IsRead (s : Setting) (link : Link) : Type 0 where
+  pub served_within : link.served ≤ length (requests_stream link)
+  pub requests : link.accepted ≡ filter_map (read_request s.bodies) (packets_to link.served (requests_stream link))
+  pub taken_within : link.taken ≤ length link.accepted
+  pub answers : link.answers ≡ map (answer_frame s) (take link.taken link.accepted)
+  pub delivered_within : link.delivered ≤ length (answers_stream link)
+  pub packets : map (λ (row : GotRow). row.packet) link.got ≡ packets_to link.delivered (answers_stream link)
+
+-- How calls end.
+
+abbrev pub got_of : Option Link → List GotRow
+got_of None = []
+got_of (Some link) = link.got
+
+-- the packets that the caller got of a node
+abbrev pub got_at : Course → ℕ → List GotRow
+got_at c node = got_of (link_of node c.links)
+
+-- these bytes were the packet of this number, and settled the call with this id
+abbrev pub IsUsed : Course → (node packet : ℕ) → List ℕ → ℕ → Type 0
+IsUsed c node packet bytes id =
+    (k : ℕ) × (packet ≡ suc k) × (slice_get (got_at c node) k ≡ Some (record { packet = bytes; fate = Used (record { 0 = id }) }))
+
+-- a packet settled the call with this id: it reads as this response, which names the id
+pub record CameFor (s : Setting) (c : Course) (id node packet : ℕ) (r : Response) : Type 0 where
+  pub bytes : List ℕ
+  pub used : IsUsed c node packet bytes id
+  pub reads : read_response s.bodies bytes ≡ Some r
+  pub names : named_id r.id ≡ id
+
+-- a call ends by a packet that came for it, or by a close
+abbrev pub FateHasCause : Setting → Course → ℕ → Option Fate → Type 0
+FateHasCause s c id (Some (replied node packet r)) = CameFor s c id node packet r
+FateHasCause s c id (Some closed) = c.closed ≡ true
+FateHasCause s c id None = Unit {0}
+
+abbrev pub HasCause : Setting → Course → Stage → Type 0
+HasCause s c (refused why) = Unit {0}
+HasCause s c (opened life) = FateHasCause s c life.id life.fate
+
+-- a call with this id ended so
+pub record EndsAs (stage : Stage) (id : ℕ) (fate : Fate) : Type 0 where
+  pub life : Life
+  pub life_is : stage ≡ opened life
+  pub id_is : life.id ≡ id
+  pub fate_is : life.fate ≡ Some fate
+
+-- the call with this id ended by this packet
+pub record IsNamed (c : Course) (node packet id : ℕ) : Type 0 where
+  pub place : ℕ
+  pub call : Noted
+  pub response : Response
+  pub call_is : IsCallAt c place call
+  pub ends : EndsAs call.stage id (replied node packet response)
+
+-- What was sent.
+
+-- the frame of a call that was opened at this node: the request of its arguments under its id
+abbrev pub sent_of_stage : Setting → ℕ → CallSpec → Stage → Option SentRow
+sent_of_stage s node spec (refused why) = None
+sent_of_stage s node spec (opened life) = if life.node == node then Some (sent_row s spec life.id) else None
+
+abbrev pub sent_of : Setting → ℕ → Noted → Option SentRow
+sent_of s node call = sent_of_stage s node call.spec call.stage

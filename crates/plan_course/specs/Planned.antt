@@ -1,0 +1,131 @@
+-- The report of a script (docs/SCRIPTS.md, "Reports").
+use Rattle.std.specs.Prelude.{ℕ, suc, ℤ, pos, neg_ℤ, true, if◌then◌else◌, Option, Some, None, List, [], ◌∷◌, ◌++◌, map, take, fold, filter_map}
+use Rattle.tars_model.specs.Members.{reply_members_of}
+use Rattle.tars_model.specs.declared.value.Value.{Value}
+use Rattle.tars_decode.specs.Reads.{is_zero}
+use Rattle.tars_frames.specs.Streams.{LONGEST}
+use Rattle.tars_frames.specs.Cutting.{rest_of}
+use Rattle.session_model.specs.Sessions.{func_of}
+use Rattle.session_model.specs.declared.link_log.LinkLog.{LinkLog}
+use Rattle.session_model.specs.declared.loaded.Event.{Event}
+use Rattle.session_model.specs.declared.loaded.Event.TheVariants.{Close}
+use Rattle.session_model.specs.declared.report.CallId.{CallId}
+use Rattle.session_model.specs.declared.report.End.{End}
+use Rattle.session_model.specs.declared.report.End.TheVariants.{Value as ValueEnd, Code, Closed, Refused}
+use Rattle.session_model.specs.declared.report.PickNote.{PickNote}
+use Rattle.session_model.specs.declared.report.Report.{Report}
+use Rattle.session_model.specs.declared.report.RouteStep.{RouteStep}
+use Rattle.session_model.specs.declared.report.RouteStep.TheVariants.{Picked, Reported}
+use Rattle.session_model.specs.declared.report.Row.{Row}
+use Rattle.plan_course.specs.Bodies.{values_of}
+use Rattle.plan_course.specs.Packets.{Response}
+use Rattle.plan_course.specs.Servants.{Setting}
+use Rattle.plan_course.specs.Courses.{Fate, replied, closed, Stage, refused, opened, Noted, Link, Course, answers_stream, step, after_all}
+
+-- How a call came out.
+
+-- the return code of a reply whose body does not read
+abbrev pub REPLY_NOT_READ : ℤ
+REPLY_NOT_READ = neg_ℤ (pos 12)
+
+abbrev pub value_end : ℕ → ℕ → Option (List Value) → End
+value_end node packet None = Code node packet REPLY_NOT_READ
+value_end node packet (Some values) = ValueEnd node packet values
+
+-- the values that the body of a reply says, for a function
+abbrev pub reply_values : Setting → ℕ → List ℕ → Option (List Value)
+reply_values s func body = values_of s.bodies s.loaded.client (reply_members_of (func_of s.loaded func)) body
+
+-- what a reply says
+unfoldable pub reply_end : Setting → ℕ → ℕ → ℕ → Response → End
+reply_end s func node packet r =
+    if is_zero r.ret then value_end node packet (reply_values s func r.body) else Code node packet r.ret
+
+abbrev pub fate_end : Setting → ℕ → Option Fate → End
+fate_end s func (Some (replied node packet r)) = reply_end s func node packet r
+fate_end s func (Some closed) = Closed
+fate_end s func None = Closed
+
+abbrev pub stage_end : Setting → ℕ → Stage → End
+stage_end s func (refused why) = Refused why
+stage_end s func (opened life) = fate_end s func life.fate
+
+abbrev pub id_of : Stage → Option CallId
+id_of (refused why) = None
+id_of (opened life) = Some (record { 0 = life.id })
+
+abbrev pub row_of : Setting → Noted → Row
+row_of s call =
+    record {
+      call = call.spec.call;
+      line = call.spec.line;
+      func = call.spec.func;
+      two_way = call.spec.two_way;
+      pick = call.pick;
+      id = id_of call.stage;
+      end = stage_end s call.spec.func call.stage;
+    }
+
+-- What passed on a link, nodes from 1; what was read of the answers after the last whole packet is the rest.
+
+abbrev pub link_log : ℕ → Link → LinkLog
+link_log node link =
+    record {
+      node = node;
+      sent = link.sent;
+      torn = [];
+      got = link.got;
+      rest = rest_of LONGEST (take link.delivered (answers_stream link));
+      cut = None;
+    }
+
+abbrev pub logs_from : ℕ → List Link → List LinkLog
+logs_from node [] = []
+logs_from node (link ∷ links) = link_log node link ∷ logs_from (suc node) links
+
+-- What the router did: each pick, and each reply as a success when it is collected, in the order of calls.
+
+abbrev pub pick_step : ℕ → Option PickNote → Option RouteStep
+pick_step call None = None
+pick_step call (Some note) = Some (Picked call note.node note.why 0 0)
+
+abbrev pub success : ℕ → Option Fate → Option RouteStep
+success call (Some (replied node packet r)) = Some (Reported call node 0 true 0)
+success call _ = None
+
+abbrev pub report_step : ℕ → Stage → Option RouteStep
+report_step call (refused why) = None
+report_step call (opened life) = success call life.fate
+
+abbrev pub picked_step : Noted → Option RouteStep
+picked_step call = pick_step call.spec.call call.pick
+
+abbrev pub reported_step : Noted → Option RouteStep
+reported_step call = report_step call.spec.call call.stage
+
+-- A run ends by a close, and what is in flight is collected in the order of the calls.
+
+abbrev pub collects : Stage → Stage
+collects (refused why) = refused why
+collects (opened life) = opened (record life { collected = true })
+
+abbrev pub collected_call : Noted → Noted
+collected_call call = record call { stage = collects call.stage }
+
+abbrev pub collected_all : Course → Course
+collected_all c = record c { calls = map collected_call c.calls }
+
+unfoldable pub ended : Setting → List Event → Course
+ended s events = collected_all (step s (after_all s events) Close)
+
+abbrev pub report_of : Setting → Course → Report
+report_of s c =
+    record {
+      calls = map (row_of s) c.calls;
+      links = logs_from 1 c.links;
+      routes = filter_map picked_step c.calls ++ filter_map reported_step c.calls;
+    }
+
+-- the report of a script
+unfoldable pub planned : Setting → Report
+planned s = report_of s (ended s s.loaded.events)
