@@ -1,5 +1,5 @@
 -- Each end of a call has its cause.
-use Rattle.std.proofs.Common.{◌≡◌, ◌⊎◌, inl, inr, ℕ, suc, Bool, true, false, eqb, List, [], ◌∷◌, ◌++◌, length, map, Option, Some, None, refl, sym, ap, ◌∙◌, subst}
+use Rattle.std.proofs.Common.{◌≡◌, ◌⊎◌, inl, inr, ℕ, suc, true, eqb, List, [], ◌∷◌, ◌++◌, length, map, Option, Some, None, refl, sym, ap, ◌∙◌, subst}
 use Rattle.std.specs.Prelude.{slice_get}
 use Rattle.std.proofs.lemmas.Bool.{eqb-true}
 use Rattle.session_model.specs.declared.link_log.GotFate.TheVariants.{Used, Late}
@@ -7,9 +7,9 @@ use Rattle.session_model.specs.declared.link_log.GotRow.{GotRow}
 use Rattle.plan_course.specs.Packets.{Response, read_response}
 use Rattle.plan_course.specs.Servants.{Setting}
 use Rattle.plan_course.specs.Courses.{Fate, replied, closed, Life, Stage, refused, opened, Noted, Link, Course, Desk, link_of, with_desk, named_id, first_fate, ends_with, has_id, settled, settles, closes, is_late, is_used, came}
-use Rattle.plan_course.specs.Legal.{IsCallAt, got_at, IsUsed, CameFor, FateHasCause, HasCause}
+use Rattle.plan_course.specs.Legal.{IsCallAt, got_at, CameFor, FateHasCause, HasCause}
 use Rattle.plan_course.proofs.Lists.{get_snoc, get_unmap, of_cond}
-use Rattle.plan_course.proofs.Got.{Adds, desk_here, desk_adds, came_by}
+use Rattle.plan_course.proofs.Got.{desk_here, desk_adds, came_by}
 
 abbrev pub AllCaused : Setting → Course → Type 0
 AllCaused s c = (k : ℕ) (call : Noted) → IsCallAt c k call → HasCause s c call.stage
@@ -55,7 +55,7 @@ ends_change s old new change grows calls keeps all k call e = go (get_unmap (λ 
     go : ((n : Noted) × (slice_get old.calls k ≡ Some n) × (call ≡ record n { stage = change n.stage })) → HasCause s new call.stage
     go found =
         subst (λ (n : Noted). HasCause s new n.stage) (sym found.2)
-            (keeps found.0.stage (cause_grows s old new grows found.0.stage (all k found.0 found.1)))
+        (keeps found.0.stage (cause_grows s old new grows found.0.stage (all k found.0 found.1)))
 
 first_cause : (s : Setting) (c : Course) (id : ℕ) (fate : Fate) (before : Option Fate) → FateHasCause s c id (Some fate) → FateHasCause s c id before → FateHasCause s c id (first_fate fate before)
 first_cause s c id fate None cause old = cause
@@ -65,8 +65,8 @@ pub settle_cause : (s : Setting) (c : Course) (id : ℕ) (fate : Fate) → FateH
 settle_cause s c id fate cause (refused why) old = record {}
 settle_cause s c id fate cause (opened life) old =
     of_cond (eqb life.id id) (λ (stage : Stage). HasCause s c stage) (ends_with fate (opened life)) (opened life)
-        (λ same. first_cause s c life.id fate life.fate (subst (λ i. FateHasCause s c i (Some fate)) (sym (eqb-true life.id id same)) cause) old)
-        (λ other. old)
+    (λ same. first_cause s c life.id fate life.fate (subst (λ i. FateHasCause s c i (Some fate)) (sym (eqb-true life.id id same)) cause) old)
+    (λ other. old)
 
 pub close_cause : (s : Setting) (c : Course) → c.closed ≡ true → (stage : Stage) → HasCause s c stage → HasCause s c (ends_with closed stage)
 close_cause s c is_closed (refused why) old = record {}
@@ -98,5 +98,5 @@ desk_caused s c node link found d packet all = came_by s node (λ e. AllCaused s
     used r reads any =
         let adds = desk_adds c node link found d (is_used node d packet r) (record { packet = packet; fate = Used (record { 0 = named_id r.id }) }) refl in
         ends_change s (with_desk c node d) (with_desk c node (is_used node d packet r)) (settled (named_id r.id) (replied node (suc (length d.link.got)) r))
-            (record { got = adds.kept; stays_closed = λ e. e }) refl
-            (settle_cause s (with_desk c node (is_used node d packet r)) (named_id r.id) (replied node (suc (length d.link.got)) r) (cause r reads)) all
+        (record { got = adds.kept; stays_closed = λ e. e }) refl
+        (settle_cause s (with_desk c node (is_used node d packet r)) (named_id r.id) (replied node (suc (length d.link.got)) r) (cause r reads)) all

@@ -1,5 +1,5 @@
 -- A packet more that the caller got.
-use Rattle.std.proofs.Common.{◌≡◌, ◌⊎◌, inl, inr, ℕ, suc, Bool, true, false, List, [], ◌∷◌, ◌++◌, length, Option, Some, None, refl, sym, ap, ◌∙◌, subst}
+use Rattle.std.proofs.Common.{◌≡◌, ◌⊎◌, inl, inr, ℕ, true, List, [], ◌∷◌, ◌++◌, length, Option, Some, None, refl, sym, ap, ◌∙◌, subst}
 use Rattle.std.specs.Prelude.{slice_get}
 use Rattle.std.specs.List.{list_any}
 use Rattle.session_model.specs.declared.link_log.GotRow.{GotRow}
@@ -28,7 +28,7 @@ adds_from old new node row here others =
     stays : (j k : ℕ) (r : GotRow) → slice_get (got_at old j) k ≡ Some r → (j ≡ node) ⊎ (j ≡ node → ⊥) → slice_get (got_at new j) k ≡ Some r
     stays j k r e (inl same) =
         subst (λ i. slice_get (got_at new i) k ≡ Some r) (sym same)
-            (ap (λ g. slice_get g k) here ∙ get_append (got_at old node) (row ∷ []) k r (subst (λ i. slice_get (got_at old i) k ≡ Some r) same e))
+        (ap (λ g. slice_get g k) here ∙ get_append (got_at old node) (row ∷ []) k r (subst (λ i. slice_get (got_at old i) k ≡ Some r) same e))
     stays j k r e (inr other) = ap (λ g. slice_get g k) (others j other) ∙ e
 
     of_last : (j k : ℕ) (r : GotRow) → j ≡ node → (slice_get (got_at old node) k ≡ Some r) ⊎ ((k ≡ length (got_at old node)) × (row ≡ r))
@@ -53,8 +53,8 @@ pub desk_adds : (c : Course) (node : ℕ) (link : Link) → link_of node c.links
     → e.link.got ≡ d.link.got ++ row ∷ [] → Adds (with_desk c node d) (with_desk c node e) node row
 desk_adds c node link found d e row more =
     adds_from (with_desk c node d) (with_desk c node e) node row
-        (desk_here c node link found e ∙ (more ∙ ap (λ g. g ++ row ∷ []) (sym (desk_here c node link found d))))
-        (λ j other. desk_there c node j e other ∙ sym (desk_there c node j d other))
+    (desk_here c node link found e ∙ (more ∙ ap (λ g. g ++ row ∷ []) (sym (desk_here c node link found d))))
+    (λ j other. desk_there c node j e other ∙ sym (desk_there c node j d other))
 
 -- what holds of a late packet and of one that is used holds of each that comes
 pub came_by : (s : Setting) (node : ℕ) (Q : Desk → Type 0) (d : Desk) (packet : List ℕ) → Q (is_late d packet)

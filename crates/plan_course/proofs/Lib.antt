@@ -4,3 +4,6 @@ pub mod Links
 pub mod Got
 pub mod Ends
 pub mod Named
+pub mod Streams
+pub mod Events
+pub mod Runs

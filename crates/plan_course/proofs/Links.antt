@@ -1,5 +1,5 @@
 -- Links by their nodes, and what becomes of one where another changes.
-use Rattle.std.proofs.Common.{◌≡◌, ◌⊎◌, inl, inr, ℕ, zero, suc, pred, List, [], ◌∷◌, ◌++◌, length, Option, Some, None, refl, sym, ap, ◌∙◌, subst}
+use Rattle.std.proofs.Common.{◌≡◌, ℕ, zero, suc, pred, List, [], ◌∷◌, Some, refl, sym, ap, ◌∙◌, subst}
 use Rattle.std.specs.Prelude.{slice_get}
 use Rattle.plan_course.specs.Courses.{Link, link_of, at_node, changed_at}
 use Rattle.plan_course.proofs.Lists.{some_same, none_some}

@@ -3,14 +3,13 @@ use Rattle.std.proofs.Common.{◌≡◌, ◌⊎◌, inl, inr, ℕ, suc, Bool, tr
 use Rattle.std.specs.Prelude.{slice_get, is_none}
 use Rattle.std.specs.List.{list_any}
 use Rattle.std.proofs.lemmas.Bool.{eqb-true}
-use Rattle.session_model.specs.declared.link_log.GotFate.{GotFate}
 use Rattle.session_model.specs.declared.link_log.GotFate.TheVariants.{Used, Late}
 use Rattle.session_model.specs.declared.link_log.GotRow.{GotRow}
 use Rattle.session_model.specs.declared.report.CallId.{CallId}
 use Rattle.plan_course.specs.Packets.{Response, read_response}
 use Rattle.plan_course.specs.Servants.{Setting}
 use Rattle.plan_course.specs.Courses.{Fate, replied, closed, Life, Stage, refused, opened, Noted, Link, Course, Desk, link_of, with_desk, named_id, first_fate, ends_with, has_id, is_open, is_open_under, settled, is_late, is_used, came}
-use Rattle.plan_course.specs.Legal.{IsCallAt, got_at, EndsAs, IsNamed}
+use Rattle.plan_course.specs.Legal.{got_at, EndsAs, IsNamed}
 use Rattle.plan_course.proofs.Lists.{get_append, get_map, of_cond, any_at}
 use Rattle.plan_course.proofs.Got.{Adds, desk_here, desk_adds, came_by}
 
@@ -57,9 +56,9 @@ of_life P stage id fate ends shows =
 pub settled_leaves : (id : ℕ) (fate : Fate) → LeavesEnds (settled id fate)
 settled_leaves id fate stage own first ends =
     of_life (λ t i. EndsAs (settled id fate t) i first) stage own first ends
-        (λ life e. of_cond (eqb life.id id) (λ t. EndsAs t life.id first) (ends_with fate (opened life)) (opened life)
-            (λ same. ends_leaves fate life first e)
-            (λ other. record { life = life; life_is = refl; id_is = refl; fate_is = e }))
+    (λ life e. of_cond (eqb life.id id) (λ t. EndsAs t life.id first) (ends_with fate (opened life)) (opened life)
+    (λ same. ends_leaves fate life first e)
+    (λ other. record { life = life; life_is = refl; id_is = refl; fate_is = e }))
 
 pub closed_leaves : LeavesEnds (ends_with closed)
 closed_leaves stage own first ends = of_life (λ t i. EndsAs (ends_with closed t) i first) stage own first ends (λ life e. ends_leaves closed life first e)
@@ -76,13 +75,13 @@ pub settled_ends : (id : ℕ) (fate : Fate) (stage : Stage) → (has_id id stage
 settled_ends id fate (refused why) e = absurd (cc e)
 settled_ends id fate (opened life) e =
     of_cond (eqb life.id id) (λ t. EndsAs t id fate) (ends_with fate (opened life)) (opened life)
-        (λ same. record {
-           life = record life { fate = first_fate fate life.fate };
-           life_is = refl;
-           id_is = eqb-true life.id id same;
-           fate_is = opens life.fate (both_true (eqb life.id id) (is_none life.fate) e).1;
-         })
-        (λ other. absurd (differs (eqb life.id id) other (both_true (eqb life.id id) (is_none life.fate) e).0))
+    (λ same. record {
+      life = record life { fate = first_fate fate life.fate };
+      life_is = refl;
+      id_is = eqb-true life.id id same;
+      fate_is = opens life.fate (both_true (eqb life.id id) (is_none life.fate) e).1;
+    })
+    (λ other. absurd (differs (eqb life.id id) other (both_true (eqb life.id id) (is_none life.fate) e).0))
   where
     opens : (before : Option Fate) → is_none before ≡ true → first_fate fate before ≡ Some fate
     opens None open_still = refl
@@ -145,5 +144,5 @@ desk_named s c node link found d packet all = came_by s node (λ e. AllNamed (wi
         go (inr last) =
             let at : length d.link.got ≡ k = sym (last.1 ∙ ap length (desk_here c node link found d)) in
             subst (λ i. IsNamed (with_desk c node (is_used node d packet r)) i (suc k) id.0) (sym last.0)
-                (subst (λ i. IsNamed (with_desk c node (is_used node d packet r)) node (suc k) i) (id_same last.2)
-                    (subst (λ n. IsNamed (with_desk c node (is_used node d packet r)) node (suc n) (named_id r.id)) at this))
+            (subst (λ i. IsNamed (with_desk c node (is_used node d packet r)) node (suc k) i) (id_same last.2)
+            (subst (λ n. IsNamed (with_desk c node (is_used node d packet r)) node (suc n) (named_id r.id)) at this))

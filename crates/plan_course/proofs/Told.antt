@@ -6,7 +6,7 @@ use Rattle.std.proofs.lemmas.Bool.{ltb-true, ltb-false}
 use Rattle.tars_wire.specs.Faults.{HasFault}
 use Rattle.tars_wire.specs.Spelled.{IsBody}
 use Rattle.tars_wire.proofs.Machine.Faults.{some_outcome}
-use Rattle.plan_course.specs.Bodies.{Reading, body, no_body, AreBytes}
+use Rattle.plan_course.specs.Bodies.{Reading, body, no_body}
 
 abbrev Small : List ℕ → Type 0
 Small bytes = AllByRecursion (λ byte. byte < 256) bytes

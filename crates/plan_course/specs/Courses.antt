@@ -1,6 +1,6 @@
 -- What has happened after each event of a script, in plain lists (docs/SCRIPTS.md, "Events"). A packet is what the bytes that
 -- were read say, whoever wrote them.
-use Rattle.std.specs.Prelude.{ℕ, zero, suc, ◌+◌, ◌-◌, min, ℤ, pos, negsuc, Bool, true, false, not, ◌&&◌, ◌==◌, nat_le, if◌then◌else◌, Option, Some, None, is_none, List, [], ◌∷◌, ◌++◌, length, take, drop, map, fold, count_by, filter_map, slice_get}
+use Rattle.std.specs.Prelude.{ℕ, zero, suc, ◌+◌, min, ℤ, pos, negsuc, Bool, true, false, not, ◌&&◌, ◌==◌, nat_le, if◌then◌else◌, Option, Some, None, is_none, List, [], ◌∷◌, ◌++◌, length, take, drop, map, fold, count_by, filter_map, slice_get}
 use Rattle.std.specs.List.{list_any}
 use Rattle.tars_model.specs.Members.{arguments_of}
 use Rattle.tars_codec.specs.Written.{written}
@@ -259,8 +259,8 @@ came s node d packet = came_as node d packet (read_response s.bodies packet)
 unfoldable pub delivers : Setting → ℕ → Option ℕ → List Noted → Link → Desk
 delivers s node bytes calls link =
     fold (came s node)
-        (record { calls = calls; link = record link { delivered = read_to link.delivered bytes (answers_stream link) } })
-        (news link.delivered (read_to link.delivered bytes (answers_stream link)) (answers_stream link))
+    (record { calls = calls; link = record link { delivered = read_to link.delivered bytes (answers_stream link) } })
+    (news link.delivered (read_to link.delivered bytes (answers_stream link)) (answers_stream link))
 
 abbrev pub with_desk : Course → ℕ → Desk → Course
 with_desk c node d = record c { calls = d.calls; links = at_node node (λ link. d.link) c.links }

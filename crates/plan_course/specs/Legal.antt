@@ -1,18 +1,13 @@
 -- What holds after every list of events (docs/SCRIPTS.md, "Events" and "Reports"). Calls go by their places from 0, packets of a
 -- node by their numbers from 1.
-use Rattle.std.specs.Prelude.{◌≡◌, ◌≤◌, ◌↔◌, ℕ, suc, ◌+◌, Bool, true, false, ◌==◌, if◌then◌else◌, Option, Some, None, List, [], length, take, map, filter_map, slice_get}
-use Rattle.tars_frames.specs.Streams.{LONGEST}
-use Rattle.tars_frames.specs.Cutting.{packets_of}
-use Rattle.session_model.specs.Sessions.{WIDTH}
-use Rattle.session_model.specs.declared.link_log.GotFate.{GotFate}
+use Rattle.std.specs.Prelude.{◌≡◌, ◌≤◌, ℕ, suc, true, ◌==◌, if◌then◌else◌, Option, Some, None, List, [], length, take, map, filter_map, slice_get}
 use Rattle.session_model.specs.declared.link_log.GotFate.TheVariants.{Used}
 use Rattle.session_model.specs.declared.link_log.GotRow.{GotRow}
 use Rattle.session_model.specs.declared.link_log.SentRow.{SentRow}
 use Rattle.session_model.specs.declared.loaded.CallSpec.{CallSpec}
-use Rattle.session_model.specs.declared.report.Refusal.TheVariants as refusal
-use Rattle.plan_course.specs.Packets.{Request, Response, read_request, read_response}
+use Rattle.plan_course.specs.Packets.{Response, read_request, read_response}
 use Rattle.plan_course.specs.Servants.{Setting, answer_frame}
-use Rattle.plan_course.specs.Courses.{Fate, replied, closed, Life, Stage, refused, opened, Noted, Link, Course, link_of, packets_to, requests_stream, answers_stream, named_id, in_flight, sent_row}
+use Rattle.plan_course.specs.Courses.{Fate, replied, closed, Life, Stage, refused, opened, Noted, Link, Course, link_of, packets_to, requests_stream, answers_stream, named_id, sent_row}
 
 abbrev pub IsCallAt : Course → ℕ → Noted → Type 0
 IsCallAt c k call = slice_get c.calls k ≡ Some call

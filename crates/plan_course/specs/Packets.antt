@@ -1,5 +1,5 @@
 -- Requests and responses, as they are written and read (docs/PROTOCOL.md, "Packets"; RequestF.tars of TarsCpp).
-use Rattle.std.specs.Prelude.{ℕ, ◌+◌, ℤ, pos, Bool, true, false, Option, option_map, List, [], ◌∷◌, drop, slice_index_or, codes}
+use Rattle.std.specs.Prelude.{ℕ, ℤ, pos, Bool, true, false, Option, option_map, List, [], ◌∷◌, drop, slice_index_or, codes}
 use Rattle.tars_model.specs.Declarations.{nothing_declared}
 use Rattle.tars_model.specs.declared.member.Member.{Member}
 use Rattle.tars_model.specs.declared.ty.Ty.{Ty, Byte, Short, Int, Text as TextTy, Vector, Map as MapTy}
@@ -71,13 +71,13 @@ pub record Response : Type 0 where
 unfoldable pub request_frame : Request → List ℕ
 request_frame r =
     framed (written nothing_declared request_members
-        (Num r.version ∷ Num (pos 0) ∷ Num (pos 0) ∷ Num r.id ∷ Text r.servant ∷ Text r.func ∷ Blob r.body
-         ∷ Num r.timeout ∷ Map [] ∷ Map [] ∷ []))
+    (Num r.version ∷ Num (pos 0) ∷ Num (pos 0) ∷ Num r.id ∷ Text r.servant ∷ Text r.func ∷ Blob r.body
+    ∷ Num r.timeout ∷ Map [] ∷ Map [] ∷ []))
 
 unfoldable pub response_frame : Response → List ℕ
 response_frame r =
     framed (written nothing_declared response_members
-        (Num (pos 1) ∷ Num (pos 0) ∷ Num r.id ∷ Num (pos 0) ∷ Num r.ret ∷ Blob r.body ∷ Map [] ∷ Text [] ∷ []))
+    (Num (pos 1) ∷ Num (pos 0) ∷ Num r.id ∷ Num (pos 0) ∷ Num r.ret ∷ Blob r.body ∷ Map [] ∷ Text [] ∷ []))
 
 -- Read: values go by their places among the members.
 abbrev pub bytes_of_layer : layer.Value-F Value Pair → List ℕ

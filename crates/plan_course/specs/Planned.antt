@@ -1,5 +1,5 @@
 -- The report of a script (docs/SCRIPTS.md, "Reports").
-use Rattle.std.specs.Prelude.{ℕ, suc, ℤ, pos, neg_ℤ, true, if◌then◌else◌, Option, Some, None, List, [], ◌∷◌, ◌++◌, map, take, fold, filter_map}
+use Rattle.std.specs.Prelude.{ℕ, suc, ℤ, pos, neg_ℤ, true, if◌then◌else◌, Option, Some, None, List, [], ◌∷◌, ◌++◌, map, take, filter_map}
 use Rattle.tars_model.specs.Members.{reply_members_of}
 use Rattle.tars_model.specs.declared.value.Value.{Value}
 use Rattle.tars_decode.specs.Reads.{is_zero}

@@ -10,7 +10,7 @@ use Rattle.session_model.specs.Sessions.{interface_of, func_of}
 use Rattle.session_model.specs.declared.loaded.FuncRule.{FuncRule}
 use Rattle.session_model.specs.declared.loaded.Loaded.{Loaded}
 use Rattle.plan_course.specs.Bodies.{Bodies, values_of}
-use Rattle.plan_course.specs.Packets.{Request, Response, response_frame}
+use Rattle.plan_course.specs.Packets.{Request, response_frame}
 
 -- what stands still in a run: the session, and what bytes are
 pub record Setting : Type 0 where

@@ -7,4 +7,4 @@
 
 mod laws;
 
-pub use laws::bodies_are_told;
+pub use laws::{bodies_are_told, legal_course};
