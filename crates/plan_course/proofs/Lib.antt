@@ -7,3 +7,5 @@ pub mod Named
 pub mod Streams
 pub mod Events
 pub mod Runs
+pub mod Sent
+pub mod Openings

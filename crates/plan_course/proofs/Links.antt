@@ -1,8 +1,8 @@
 -- Links by their nodes, and what becomes of one where another changes.
-use Rattle.std.proofs.Common.{◌≡◌, ℕ, zero, suc, pred, List, [], ◌∷◌, Some, refl, sym, ap, ◌∙◌, subst}
+use Rattle.std.proofs.Common.{◌≡◌, ◌⊎◌, inl, inr, ℕ, zero, suc, pred, List, [], ◌∷◌, Some, refl, sym, ap, ◌∙◌, subst}
 use Rattle.std.specs.Prelude.{slice_get}
 use Rattle.plan_course.specs.Courses.{Link, link_of, at_node, changed_at}
-use Rattle.plan_course.proofs.Lists.{some_same, none_some}
+use Rattle.plan_course.proofs.Lists.{same_or_other, some_same, none_some}
 
 -- the link of a node, before and after that of a node changed
 pub data Changed (j k : ℕ) (change : Link → Link) (link : Link) : Link → Type 0 where
@@ -51,12 +51,12 @@ Each P links = (j : ℕ) (link : Link) → link_of j links ≡ Some link → P j
 
 -- and goes over where the changed one gets it
 pub each_goes : (P Q : ℕ → Link → Type 0) (k : ℕ) (change : Link → Link) (links : List Link) → Each P links
-    → ((j : ℕ) (link : Link) → P j link → Q j link) → ((link : Link) → link_of k links ≡ Some link → P k link → Q k (change link)) → Each Q (at_node k change links)
+    → ((j : ℕ) (link : Link) → (j ≡ k → ⊥) → P j link → Q j link) → ((link : Link) → link_of k links ≡ Some link → P k link → Q k (change link)) → Each Q (at_node k change links)
 each_goes P Q k change links each others here j next e = go (link_back k j change links next e)
   where
     by_case : (link after : Link) → link_of j links ≡ Some link → Changed j k change link after → Q j after
     by_case link after found (this same) = subst (λ i. Q i (change link)) (sym same) (here link (subst (λ i. link_of i links ≡ Some link) same found) (subst (λ i. P i link) same (each j link found)))
-    by_case link after found (another other) = others j link (each j link found)
+    by_case link after found (another other) = others j link other (each j link found)
 
     moved : (link : Link) → link_of j links ≡ Some link → ((after : Link) × (link_of j (at_node k change links) ≡ Some after) × Changed j k change link after) → Q j next
     moved link found on = subst (λ (l : Link). Q j l) (some_same on.0 next (sym on.1 ∙ e)) (by_case link on.0 found on.2)
@@ -66,7 +66,7 @@ each_goes P Q k change links each others here j next e = go (link_back k j chang
 
 pub each_kept : (P : ℕ → Link → Type 0) (k : ℕ) (change : Link → Link) (links : List Link) → Each P links
     → ((link : Link) → P k link → P k (change link)) → Each P (at_node k change links)
-each_kept P k change links each here = each_goes P P k change links each (λ j link p. p) (λ link found p. here link p)
+each_kept P k change links each here = each_goes P P k change links each (λ j link other p. p) (λ link found p. here link p)
 
 -- the changed link, and the others
 place_here : (k : ℕ) (change : Link → Link) (links : List Link) (link : Link) → slice_get links k ≡ Some link → slice_get (changed_at k change links) k ≡ Some (change link)
@@ -89,3 +89,14 @@ pub link_there : (k j : ℕ) (change : Link → Link) (links : List Link) → (j
 link_there zero j change links other = refl
 link_there (suc k) zero change links other = refl
 link_there (suc k) (suc j) change links other = place_there k j change links (λ same. other (ap suc same))
+
+-- one link in the place of another
+pub each_put : (P Q : ℕ → Link → Type 0) (k : ℕ) (was old new : Link) (links : List Link) → link_of k links ≡ Some was → Each P (at_node k (λ l. old) links)
+    → ((j : ℕ) (link : Link) → P j link → Q j link) → (P k old → Q k new) → Each Q (at_node k (λ l. new) links)
+each_put P Q k was old new links found each others here j next e = go (same_or_other j k)
+  where
+    go : (j ≡ k) ⊎ (j ≡ k → ⊥) → Q j next
+    go (inl same) =
+        subst (λ (l : Link). Q j l) (some_same new next (sym (link_here k (λ l. new) links was found) ∙ subst (λ i. link_of i (at_node k (λ l. new) links) ≡ Some next) same e))
+        (subst (λ i. Q i new) (sym same) (here (each k old (link_here k (λ l. old) links was found))))
+    go (inr other) = others j next (each j next (link_there k j (λ l. old) links other ∙ (sym (link_there k j (λ l. new) links other) ∙ e)))

@@ -1,7 +1,8 @@
 -- What stands at the places of lists, and what holds after all items of one.
-use Rattle.std.proofs.Common.{◌≡◌, ◌⊎◌, inl, inr, ℕ, zero, suc, pred, Bool, true, false, cond, ◌||◌, List, [], ◌∷◌, ◌++◌, length, Option, Some, None, refl, sym, ap, map}
-use Rattle.std.specs.Prelude.{slice_get, fold, filter_map}
-use Rattle.std.specs.List.{list_any}
+use Rattle.std.proofs.Common.{◌≡◌, ◌⊎◌, inl, inr, ℕ, zero, suc, pred, Bool, true, false, cond, ◌||◌, List, [], ◌∷◌, ◌++◌, length, Option, Some, None, refl, sym, ap, map, ◌<◌, ◌+◌, arith, take, ◌∙◌}
+use Rattle.std.proofs.lemmas.List.Sums.{sum_by-append}
+use Rattle.std.specs.Prelude.{slice_get, fold, filter_map, count_by}
+use Rattle.std.specs.List.{list_any, AllByRecursion}
 
 pub some_same : {X : Type 0} (x y : X) → (let a : Option X = Some x in a) ≡ Some y → x ≡ y
 some_same x y e = ap (λ o. elim o [ Some z ↦ z | None ↦ x ]) e
@@ -76,3 +77,52 @@ any_at p (x ∷ xs) e = go (p x) refl e (λ any. any_at p xs any)
         → (k : ℕ) × (y : _) × (slice_get (x ∷ xs) k ≡ Some y) × (p y ≡ true)
     go true first any later = (0, x, refl, first)
     go false first any later = let found = later any in (suc found.0, found.1, found.2, found.3)
+
+pub join_more : {X : Type 0} (xs : List X) (x : X) (ys : List X) → (xs ++ x ∷ []) ++ ys ≡ xs ++ x ∷ ys
+join_more [] x ys = refl
+join_more (y ∷ xs) x ys = ap (λ zs. y ∷ zs) (join_more xs x ys)
+
+pub all_more : {X : Type 0} (P : X → Type 0) (xs : List X) (x : X) → AllByRecursion P xs → P x → AllByRecursion P (xs ++ x ∷ [])
+all_more P [] x all last = (last, record {})
+all_more P (y ∷ xs) x all last = (all.0, all_more P xs x all.1 last)
+
+pub all_map : {X Y : Type 0} (P : X → Type 0) (Q : Y → Type 0) (f : X → Y) (xs : List X) → ((x : X) → P x → Q (f x)) → AllByRecursion P xs → AllByRecursion Q (map f xs)
+all_map P Q f [] goes all = record {}
+all_map P Q f (x ∷ xs) goes all = (goes x all.0, all_map P Q f xs goes all.1)
+
+-- counting by one test or another
+pub count_cons : {X : Type 0} (p : X → Bool) (x : X) (xs : List X) → count_by p (x ∷ xs) ≡ cond (p x) 1 0 + count_by p xs
+count_cons p x xs = sum_by-append (λ y. cond (p y) 1 0) (x ∷ []) xs ∙ ap (λ n. n + count_by p xs) (from_zero (cond (p x) 1 0))
+  where
+    from_zero : (n : ℕ) → 0 + n ≡ n
+    from_zero n = omega arith
+
+counts_one : {X : Type 0} (p : X → Bool) (x : X) (xs : List X) → p x ≡ true → count_by p (x ∷ xs) ≡ suc (count_by p xs)
+counts_one p x xs e = count_cons p x xs ∙ (ap (λ b. cond b 1 0 + count_by p xs) e ∙ one_more (count_by p xs))
+  where
+    one_more : (n : ℕ) → 1 + n ≡ suc n
+    one_more n = omega arith
+
+count_step : {X Y : Type 0} (p : X → Bool) (q : Y → Bool) (x : X) (y : Y) (xs : List X) (ys : List Y) → p x ≡ q y → count_by p xs ≡ count_by q ys → count_by p (x ∷ xs) ≡ count_by q (y ∷ ys)
+count_step p q x y xs ys e f =
+    count_cons p x xs ∙ (ap (λ b. cond b 1 0 + count_by p xs) e ∙ (ap (λ n. cond (q y) 1 0 + n) f ∙ sym (count_cons q y ys)))
+
+pub count_same : {X : Type 0} (p q : X → Bool) (xs : List X) → AllByRecursion (λ x. p x ≡ q x) xs → count_by p xs ≡ count_by q xs
+count_same p q [] all = refl
+count_same p q (x ∷ xs) all = count_step p q x x xs xs all.0 (count_same p q xs all.1)
+
+pub count_map : {X Y : Type 0} (p : Y → Bool) (q : X → Bool) (f : X → Y) → ((x : X) → p (f x) ≡ q x) → (xs : List X) → count_by p (map f xs) ≡ count_by q xs
+count_map p q f same [] = refl
+count_map p q f same (x ∷ xs) = count_step p q (f x) x (map f xs) xs (same x) (count_map p q f same xs)
+
+pub count_rises : {X : Type 0} (p : X → Bool) (xs : List X) (j k : ℕ) (x : X) → slice_get xs j ≡ Some x → p x ≡ true → j < k → count_by p (take j xs) < count_by p (take k xs)
+count_rises p [] j k x e passes below = absurd (none_some x e)
+count_rises p (y ∷ xs) zero zero x e passes below = absurd (omega arith)
+count_rises p (y ∷ xs) zero (suc k) x e passes below =
+    let after = counts_one p y (take k xs) (ap p (some_same y x e) ∙ passes) in omega (arith, after)
+count_rises p (y ∷ xs) (suc j) zero x e passes below = absurd (omega arith)
+count_rises p (y ∷ xs) (suc j) (suc k) x e passes below =
+    let before = count_cons p y (take j xs) in
+    let after = count_cons p y (take k xs) in
+    let rises = count_rises p xs j k x e passes (omega arith) in
+    omega (arith, before, after, rises)

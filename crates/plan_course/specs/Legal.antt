@@ -1,13 +1,17 @@
 -- What holds after every list of events (docs/SCRIPTS.md, "Events" and "Reports"). Calls go by their places from 0, packets of a
 -- node by their numbers from 1.
-use Rattle.std.specs.Prelude.{◌≡◌, ◌≤◌, ℕ, suc, true, ◌==◌, if◌then◌else◌, Option, Some, None, List, [], length, take, map, filter_map, slice_get}
+use Rattle.std.specs.Prelude.{◌≡◌, ◌≤◌, ℕ, suc, true, ◌==◌, if◌then◌else◌, Option, Some, None, List, [], length, take, map, filter_map, slice_get, Bool, false, ◌&&◌, nat_le, count_by, ◌∷◌}
 use Rattle.session_model.specs.declared.link_log.GotFate.TheVariants.{Used}
 use Rattle.session_model.specs.declared.link_log.GotRow.{GotRow}
 use Rattle.session_model.specs.declared.link_log.SentRow.{SentRow}
 use Rattle.session_model.specs.declared.loaded.CallSpec.{CallSpec}
+use Rattle.session_model.specs.Sessions.{WIDTH, NODE}
+use Rattle.session_model.specs.declared.loaded.Event.{Event}
+use Rattle.session_model.specs.declared.loaded.Event.TheVariants.{Call, Serve, Work, Deliver, Close}
+use Rattle.session_model.specs.declared.report.Refusal.TheVariants as refusal
 use Rattle.plan_course.specs.Packets.{Response, read_request, read_response}
 use Rattle.plan_course.specs.Servants.{Setting, answer_frame}
-use Rattle.plan_course.specs.Courses.{Fate, replied, closed, Life, Stage, refused, opened, Noted, Link, Course, link_of, packets_to, requests_stream, answers_stream, named_id, sent_row}
+use Rattle.plan_course.specs.Courses.{Fate, replied, closed, Life, Stage, refused, opened, Noted, Link, Course, link_of, packets_to, requests_stream, answers_stream, named_id, sent_row, is_opened, next_id}
 
 abbrev pub IsCallAt : Course → ℕ → Noted → Type 0
 IsCallAt c k call = slice_get c.calls k ≡ Some call
@@ -83,3 +87,48 @@ sent_of_stage s node spec (opened life) = if life.node == node then Some (sent_r
 
 abbrev pub sent_of : Setting → ℕ → Noted → Option SentRow
 sent_of s node call = sent_of_stage s node call.spec call.stage
+
+-- Which calls are opened.
+
+-- a scripted call, and whether a close came before it
+pub record Scripted : Type 0 where
+  pub spec : CallSpec
+  pub closed : Bool
+
+abbrev pub scripted_after : Bool → List Event → List Scripted
+scripted_after shut [] = []
+scripted_after shut (Call spec ∷ events) = record { spec = spec; closed = shut } ∷ scripted_after shut events
+scripted_after shut (Serve node bytes ∷ events) = scripted_after shut events
+scripted_after shut (Work node ∷ events) = scripted_after shut events
+scripted_after shut (Deliver node bytes ∷ events) = scripted_after shut events
+scripted_after shut (Close ∷ events) = scripted_after true events
+
+abbrev pub scripted : List Event → List Scripted
+scripted events = scripted_after false events
+
+-- what a call was at first: refused, or opened under an id at a node
+pub data Opening : Type 0 where
+  as_full : Opening
+  as_closed : Opening
+  under : (id node : ℕ) → Opening
+
+abbrev pub opening_of : Stage → Opening
+opening_of (refused refusal.Full) = as_full
+opening_of (refused (refusal.Closed word)) = as_closed
+opening_of (opened life) = under life.id life.node
+
+-- how many of these calls of a line were opened
+abbrev pub opened_of : ℕ → List Noted → ℕ
+opened_of line calls = count_by (λ (call : Noted). is_opened call.stage && (call.spec.line == line)) calls
+
+-- While nothing is collected before the end and there is one node: a call is refused as full where so many of its line were opened
+-- before, else as closed where a close came before, and is else opened at the one node, under the number of calls opened so far.
+abbrev pub opening_after : List Noted → Scripted → Opening
+opening_after before call =
+    if nat_le WIDTH (opened_of call.spec.line before) then as_full
+    else (if call.closed then as_closed else under (next_id before) NODE)
+
+-- the call at a place is the scripted one there, and was opened or refused by these rules
+pub record IsAsScripted (c : Course) (k : ℕ) (call : Noted) (scripted : Scripted) : Type 0 where
+  pub spec : call.spec ≡ scripted.spec
+  pub opening : opening_of call.stage ≡ opening_after (take k c.calls) scripted

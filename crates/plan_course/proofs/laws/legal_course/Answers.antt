@@ -1,8 +1,19 @@
-use Rattle.std.proofs.Common.{sym, subst}
+use Rattle.std.proofs.Common.{sym, subst, []}
 use Rattle.plan_course.specs.Planned.{ended}
-use Rattle.plan_course.specs.Legal.{IsNamed}
+use Rattle.plan_course.specs.Legal.{IsNamed, scripted}
+use Rattle.plan_course.proofs.Openings.{same_specs, runs_open, ids_differ}
 use Rattle.plan_course.proofs.Runs.{runs_read, runs_caused, runs_named}
+use Rattle.plan_course.proofs.Sent.{runs_sent}
 use Rattle.plan_course.proofs.laws.legal_course.Goals as goal
+
+pub returns-clause-rows : goal.returns-clause-rows
+returns-clause-rows c = λ s events. same_specs [] (scripted events) (ended s events).calls (runs_open s events)
+
+pub returns-clause-ids : goal.returns-clause-ids
+returns-clause-ids c = ids_differ
+
+pub returns-clause-sends : goal.returns-clause-sends
+returns-clause-sends c = λ s events node link e. runs_sent s events node link e
 
 pub returns-clause-reads : goal.returns-clause-reads
 returns-clause-reads c = λ s events node link e. runs_read s events node link e
