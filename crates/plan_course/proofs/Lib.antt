@@ -9,3 +9,4 @@ pub mod Events
 pub mod Runs
 pub mod Sent
 pub mod Openings
+pub mod Worked
