@@ -10,3 +10,4 @@ pub mod Runs
 pub mod Sent
 pub mod Openings
 pub mod Worked
+pub mod Reports

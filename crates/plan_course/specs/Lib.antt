@@ -4,3 +4,4 @@ pub mod Servants
 pub mod Courses
 pub mod Planned
 pub mod Legal
+pub mod LegalReports

@@ -5,7 +5,8 @@ ghost use Rattle.session_model.specs.declared.loaded.Event.{Event};
 ghost use Rattle.plan_course.specs.Bodies.{Reading};
 ghost use Rattle.plan_course.specs.Courses.{Life, Link, Noted, opened};
 ghost use Rattle.plan_course.specs.Legal.{IsCallAt, IsLinkAt, IsRead, HasCause, IsUsed, IsNamed, sent_of, Scripted, scripted, IsAsScripted};
-ghost use Rattle.plan_course.specs.Planned.{ended};
+ghost use Rattle.plan_course.specs.LegalReports.{IsLegal};
+ghost use Rattle.plan_course.specs.Planned.{ended, planned};
 ghost use Rattle.plan_course.specs.Servants.{Setting};
 
 /// All bytes can be told: they are a body with its fields, or none.
@@ -37,4 +38,9 @@ pub fn one_node_course()
     // Each call is refused or opened by what came before it.
     ensures refusals { (s : Setting) (events : List Event) (k : ℕ) (call : Noted) → IsCallAt (ended s events) k call
         → (text : Scripted) × (slice_get (scripted events) k ≡ Some text) × IsAsScripted (ended s events) k call text }
+{}
+
+/// The report of every session is legal.
+pub fn legal_report()
+    ensures { (s : Setting) → IsLegal s (planned s) }
 {}

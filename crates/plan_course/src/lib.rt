@@ -7,4 +7,4 @@
 
 mod laws;
 
-pub use laws::{bodies_are_told, legal_course, one_node_course};
+pub use laws::{bodies_are_told, legal_course, legal_report, one_node_course};
