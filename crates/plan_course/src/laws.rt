@@ -14,7 +14,7 @@ pub fn bodies_are_told()
     ensures { (bytes : List ℕ) → Reading bytes }
 {}
 
-/// What holds of a run, whatever its events are and whatever its nodes answer.
+/// What holds of a run, whatever its events are.
 pub fn legal_course()
     // There is a call for each scripted one, in order.
     ensures rows { (s : Setting) (events : List Event) → map (λ (call : Noted). call.spec) (ended s events).calls ≡ map (λ (text : Scripted). text.spec) (scripted events) }
