@@ -1,8 +1,10 @@
 -- What a node answers to a request, by its bytes alone (docs/SCRIPTS.md, "Rules"; docs/PROTOCOL.md, "Bodies").
-use Rattle.std.specs.Prelude.{ℕ, ◌==◌, ℤ, pos, negsuc, neg_ℤ, Bool, false, if◌then◌else◌, Option, Some, None, List, [], ◌∷◌, find, position}
+use Rattle.std.specs.Prelude.{ℕ, ◌==◌, ℤ, pos, negsuc, neg_ℤ, Bool, false, if◌then◌else◌, Option, Some, None, List, [], ◌∷◌, drop, map, find, position}
 use Rattle.std.specs.Str.{bytes_eq}
 use Rattle.tars_model.specs.Members.{arguments_of, reply_members_of}
+use Rattle.tars_model.specs.Values.{default_of}
 use Rattle.tars_model.specs.declared.func_desc.FuncDesc.{FuncDesc}
+use Rattle.tars_model.specs.declared.member.Member.{Member}
 use Rattle.tars_model.specs.declared.value.Value.{Value, Num}
 use Rattle.tars_codec.specs.Written.{written}
 use Rattle.session_model.specs.Replies.{Reply, sum, code, reply_by}
@@ -39,16 +41,24 @@ pub record Answer : Type 0 where
 abbrev pub no_values : ℤ → Answer
 no_values ret = record { ret = ret; body = [] }
 
+-- values that nothing else is said of: each is the default of its type
+abbrev pub defaults : Setting → FuncDesc → List Value
+defaults s func = map (λ (m : Member). default_of s.loaded.client m.ty) (reply_members_of func)
+
+abbrev pub with_values : Setting → FuncDesc → List Value → Answer
+with_values s func values = record { ret = pos 0; body = written s.loaded.client (reply_members_of func) values }
+
+-- a sum is what is returned; what comes back in parameters has its defaults
 abbrev pub replied : Setting → FuncDesc → Reply → Answer
-replied s func (sum n) = record { ret = pos 0; body = written s.loaded.client (reply_members_of func) (Num n ∷ []) }
+replied s func (sum n) = with_values s func (Num n ∷ drop 1 (defaults s func))
 replied s func (code n) = no_values n
 
--- the rule of a function
+-- the rule of a function; one without a rule returns the default of its type
 abbrev pub rule_for : Setting → ℕ → Option FuncRule
 rule_for s func = find (λ (rule : FuncRule). rule.func == func) s.loaded.rules
 
 abbrev pub by_rule : Setting → ℕ → Option FuncRule → List Value → Answer
-by_rule s func None args = no_values NO_FUNCTION
+by_rule s func None args = with_values s (func_of s.loaded func) (defaults s (func_of s.loaded func))
 by_rule s func (Some rule) args = replied s (func_of s.loaded func) (reply_by rule.rule args)
 
 abbrev pub with_arguments : Setting → ℕ → Option (List Value) → Answer
