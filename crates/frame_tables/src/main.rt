@@ -7,35 +7,12 @@
 #![tactic(auto)]
 
 mod counting;
-mod page;
 mod rows;
 
 use counting::count_packets;
-use page::Page;
-use rows::put_row;
-use std::{env, fs, io, str};
-
-/// Prints what comes of a row.
-fn print_row(rt: &HostRuntime, row: &str) -> io::Result<()> {
-    let mut page = Page::new(rt.alloc());
-    put_row(&mut page, row);
-    match page.into_text() {
-        Ok(text) => println!(rt; "{text}"),
-        Err(_) => println!(rt; "no memory"),
-    }
-}
-
-/// Prints what comes of each row of a table.
-fn print_rows(rt: &HostRuntime, name: &str) -> io::Result<()> {
-    let bytes = fs::read(rt, name)?;
-    let Ok(text) = str::from_utf8(&bytes) else {
-        return println!(rt; "{name}: no text");
-    };
-    for row in text.lines() {
-        print_row(rt, row)?;
-    }
-    Ok(())
-}
+use row_pages::print_table;
+use rows::FrameRows;
+use std::{env, fs, io};
 
 /// Prints how many packets a stream has that is a file so many times.
 fn print_count(rt: &HostRuntime, name: &str, length: &str, times: &str) -> io::Result<()> {
@@ -52,7 +29,7 @@ fn main(rt: HostRuntime) -> io::Result<()> {
     let words = env::args(&rt)?.skip(1).collect::<Vec<String>>(rt.alloc())?;
     match words.as_slice() {
         [name, length, times] => print_count(&rt, name, length, times),
-        [name] => print_rows(&rt, name),
+        [name] => print_table::<FrameRows>(&rt, name),
         _ => println!(rt; "usage: frame_tables FILE [LENGTH TIMES]"),
     }
 }

@@ -1,8 +1,20 @@
 //! What comes of a row. Its words are pieces that are fed, each in hexadecimal digits, as `COUNT*BYTE` or `-` where it is empty,
 //! `next` and `rest`.
 
-use crate::page::Page;
+use row_pages::{Page, Rows};
 use tars_frames::{FrameFault, Frames, Packet};
+
+/// Rows of streams in pieces.
+pub struct FrameRows;
+
+/// Adds bytes, or how many there are where they are many.
+fn put_bytes(page: &mut Page, bytes: &[u8]) {
+    match bytes.len() {
+        0 => page.add("-"),
+        1..=64 => page.add_hex(bytes),
+        length => page.show(format_args!("{length} bytes")),
+    }
+}
 
 fn put_fed(page: &mut Page, frames: &mut Frames, piece: &[u8]) {
     match frames.feed(page.alloc(), piece) {
@@ -32,7 +44,7 @@ fn put_repeated(page: &mut Page, frames: &mut Frames, count: &str, byte: &str) {
 
 fn put_packet(page: &mut Page, packet: Option<Packet>) {
     match packet {
-        Some(packet) => page.add_bytes(packet.bytes()),
+        Some(packet) => put_bytes(page, packet.bytes()),
         None => page.add("none"),
     }
 }
@@ -40,7 +52,7 @@ fn put_packet(page: &mut Page, packet: Option<Packet>) {
 fn put_word(page: &mut Page, frames: &mut Frames, word: &str) {
     match word {
         "next" => put_packet(page, frames.next()),
-        "rest" => page.add_bytes(frames.rest()),
+        "rest" => put_bytes(page, frames.rest()),
         "-" => put_fed(page, frames, &[]),
         _ => match word.split_once('*') {
             Some((count, byte)) => put_repeated(page, frames, count, byte),
@@ -60,13 +72,15 @@ fn put_words(page: &mut Page, frames: &mut Frames, row: &str) {
     }
 }
 
-/// Adds what comes of a row.
-pub fn put_row(page: &mut Page, row: &str) {
-    if row.is_empty() || row.starts_with('#') {
-        return page.add(row);
-    }
-    match Frames::new(page.alloc()) {
-        Ok(mut frames) => put_words(page, &mut frames, row),
-        Err(_) => page.fail(),
+impl Rows for FrameRows {
+    /// A comment and an empty line are given back.
+    fn put_row(page: &mut Page, row: &str) {
+        if row.is_empty() || row.starts_with('#') {
+            return page.add(row);
+        }
+        match Frames::new(page.alloc()) {
+            Ok(mut frames) => put_words(page, &mut frames, row),
+            Err(_) => page.fail(),
+        }
     }
 }
