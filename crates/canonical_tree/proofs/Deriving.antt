@@ -4,7 +4,7 @@ use Rattle.tars_model.specs.Declarations.{Declared}
 use Rattle.tars_model.specs.Schemas.{IsSchema}
 use Rattle.idl_parse.specs.Grammar.{nesting_limit, EntryOf, IsFile}
 use Rattle.idl_parse.specs.Rules.{Many}
-use Rattle.idl_parse.specs.declared.token.Token.{Token}
+use Rattle.idl_lex.specs.declared.token.Token.{Token}
 use Rattle.idl_parse.specs.declared.tree.module.Entry.{Entry}
 use Rattle.canonical_tree.specs.Pieces.{Piece, spell, tokens_at, block_pieces, pieces}
 use Rattle.canonical_tree.specs.Says.{EntriesSay}

@@ -21,14 +21,14 @@ use Rattle.tars_model.specs.declared.value.Pair.{Pair}
 use Rattle.tars_model.specs.declared.value.Value.{Value, out-Value}
 use Rattle.tars_model.specs.declared.value.Value.TheOpen as value
 use Rattle.canonical_text.specs.Canonical.{quoted, is_absent, decl_home}
-use Rattle.idl_parse.specs.Spellings.{keyword_text, sign_text}
-use Rattle.idl_parse.specs.declared.keyword.Keyword.{Keyword}
-use Rattle.idl_parse.specs.declared.keyword.Keyword.TheVariants as words
-use Rattle.idl_parse.specs.declared.kind.Kind.{Kind}
-use Rattle.idl_parse.specs.declared.kind.Kind.TheVariants as kinds
-use Rattle.idl_parse.specs.declared.sign.Sign.{Sign}
-use Rattle.idl_parse.specs.declared.sign.Sign.TheVariants as signs
-use Rattle.idl_parse.specs.declared.token.Token.{Token}
+use Rattle.idl_lex.specs.Spellings.{keyword_text, sign_text}
+use Rattle.idl_lex.specs.declared.keyword.Keyword.{Keyword}
+use Rattle.idl_lex.specs.declared.keyword.Keyword.TheVariants as words
+use Rattle.idl_lex.specs.declared.kind.Kind.{Kind}
+use Rattle.idl_lex.specs.declared.kind.Kind.TheVariants as kinds
+use Rattle.idl_lex.specs.declared.sign.Sign.{Sign}
+use Rattle.idl_lex.specs.declared.sign.Sign.TheVariants as signs
+use Rattle.idl_lex.specs.declared.token.Token.{Token}
 
 pub data Piece : Type 0 where
   token : Kind → List ℕ → Piece

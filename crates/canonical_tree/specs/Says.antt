@@ -19,11 +19,11 @@ use Rattle.tars_model.specs.declared.ty.Ty.TheOpen as ty
 use Rattle.tars_model.specs.declared.value.Value.{Value, out-Value}
 use Rattle.tars_model.specs.declared.value.Value.TheOpen as value
 use Rattle.canonical_text.specs.Canonical.{is_absent, decl_home}
-use Rattle.idl_parse.specs.Meanings.{whole_number, plain_text}
+use Rattle.idl_lex.specs.Meanings.{whole_number, plain_text}
 use Rattle.idl_parse.specs.TreeSpans.{StandsAt, NameIn, NumberIn}
-use Rattle.idl_parse.specs.declared.kind.Kind.TheVariants as kinds
-use Rattle.idl_parse.specs.declared.keyword.Keyword.TheVariants as words
-use Rattle.idl_parse.specs.declared.span.Span.{Span}
+use Rattle.idl_lex.specs.declared.kind.Kind.TheVariants as kinds
+use Rattle.idl_lex.specs.declared.keyword.Keyword.TheVariants as words
+use Rattle.idl_lex.specs.declared.span.Span.{Span}
 use Rattle.idl_parse.specs.declared.tree.decl.ConstTree.{ConstTree}
 use Rattle.idl_parse.specs.declared.tree.decl.DeclTree.{DeclTree}
 use Rattle.idl_parse.specs.declared.tree.decl.DeclTree.TheVariants as decls

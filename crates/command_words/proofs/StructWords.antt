@@ -6,11 +6,11 @@ use Rattle.std.proofs.lemmas.Bool.{eqb-true}
 use Rattle.std.proofs.lemmas.Slice.Eq.{bytes_eq-Decides}
 use Rattle.facts.specs.OptionSteps.{◌>>=◌}
 use Rattle.facts.proofs.OptionLaws.{some_is, chosen, bind_some}
-use Rattle.idl_parse.specs.Bytes.{begins, is_word_byte}
-use Rattle.idl_parse.specs.Forms.{IsWord}
-use Rattle.idl_parse.specs.LexSteps.{run, after_run}
-use Rattle.idl_parse.proofs.Lexing.Words.RunLaws.{run_whole, run_over, after_over}
-use Rattle.idl_parse.proofs.Lexing.Words.WordLaws.{run_word}
+use Rattle.idl_lex.specs.Bytes.{begins, is_word_byte}
+use Rattle.idl_lex.specs.Forms.{IsWord}
+use Rattle.idl_lex.specs.LexSteps.{run, after_run}
+use Rattle.idl_lex.proofs.Lexing.Words.RunLaws.{run_whole, run_over, after_over}
+use Rattle.idl_lex.proofs.Lexing.Words.WordLaws.{run_word}
 use Rattle.command_words.specs.Words.{NamesStruct, is_word}
 use Rattle.command_words.specs.WordSteps.{split_word, after_sign, is_empty, struct_of}
 

@@ -4,8 +4,8 @@ use Rattle.std.specs.Char.{is_ascii_alphabetic}
 use Rattle.std.specs.Str.{bytes_eq}
 use Rattle.clap.specs.Walk.{Row, first_of}
 use Rattle.facts.specs.OptionSteps.{◌>>=◌}
-use Rattle.idl_parse.specs.Bytes.{begins, is_word_byte}
-use Rattle.idl_parse.specs.LexSteps.{run, after_run}
+use Rattle.idl_lex.specs.Bytes.{begins, is_word_byte}
+use Rattle.idl_lex.specs.LexSteps.{run, after_run}
 use Rattle.tars_model.specs.declared.struct_name.StructName.{StructName}
 use Rattle.command_words.specs.Asked.{Asked, check, plan, encode, decode, compat}
 use Rattle.command_words.specs.declared.request.OldNew.{OldNew}

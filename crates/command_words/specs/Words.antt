@@ -1,6 +1,6 @@
 -- The words of the command line (docs/SCRIPTS.md, "Commands").
 use Rattle.std.specs.Prelude.{◌≡◌, ℕ, Bool, true, false, ◌==◌, not, List, [], ◌∷◌, ◌++◌, codes}
-use Rattle.idl_parse.specs.Forms.{IsWord}
+use Rattle.idl_lex.specs.Forms.{IsWord}
 
 -- no word is empty or begins with `-`
 abbrev pub is_word : List ℕ → Bool

@@ -2,8 +2,8 @@
 
 ghost use Rattle.std.specs.Prelude.{◌≡◌, ◌≤◌, length};
 ghost use Rattle.std.specs.List.{prefix_len};
-ghost use Rattle.idl_parse.specs.Bytes.{is_word_byte};
-ghost use Rattle.idl_parse.specs.LexSteps.{Gives};
+ghost use Rattle.idl_lex.specs.Bytes.{is_word_byte};
+ghost use Rattle.idl_lex.specs.LexSteps.{Gives};
 ghost use Rattle.command_words.specs.WordSteps as spec;
 
 /// How many letters, digits and `_` stand at the start.
@@ -18,7 +18,7 @@ fn word_len(bytes: &[u8]) -> usize
 }
 
 /// The identifier or keyword at the start, and what stands after it.
-#[tactic(auto, using(idl_parse::proofs::Lexing::Words::RunLaws::runs))]
+#[tactic(auto, using(idl_lex::proofs::Lexing::Words::RunLaws::runs))]
 pub(crate) fn split_word(bytes: &[u8]) -> Option<(&[u8], &[u8])>
     ensures { Gives (λ split. (split.0.now, split.1.now)) result (spec.split_word bytes.now) }
 {

@@ -13,7 +13,7 @@ use Rattle.tars_model.specs.declared.func_desc.Param.{Param}
 use Rattle.tars_model.specs.declared.interface_desc.InterfaceDesc.{InterfaceDesc}
 use Rattle.tars_model.specs.declared.ty.Ty.{Ty}
 use Rattle.canonical_tree.specs.Says.{Pairwise, ReturnSays, ParamSays, FuncSays, InterfaceSays}
-use Rattle.idl_parse.specs.declared.span.Span.{Span}
+use Rattle.idl_lex.specs.declared.span.Span.{Span}
 use Rattle.idl_parse.specs.declared.tree.decl.DeclTree.TheVariants as decls
 use Rattle.idl_parse.specs.declared.tree.decl.InterfaceTree.{InterfaceTree}
 use Rattle.idl_parse.specs.declared.tree.func.FuncTree.{FuncTree}

@@ -13,7 +13,7 @@ use Rattle.tars_model.specs.declared.key_desc.KeyDesc.{KeyDesc}
 use Rattle.tars_model.specs.declared.member.Member.{Member}
 use Rattle.canonical_text.specs.Canonical.{struct_home}
 use Rattle.canonical_tree.specs.Says.{NameSays, KeySays}
-use Rattle.idl_parse.specs.declared.span.Span.{Span}
+use Rattle.idl_lex.specs.declared.span.Span.{Span}
 use Rattle.idl_parse.specs.declared.tree.decl.DeclTree.TheVariants as decls
 use Rattle.idl_parse.specs.declared.tree.decl.KeyTree.{KeyTree}
 use Rattle.idl_scene.specs.Items.{declared, word}

@@ -11,7 +11,7 @@ use Rattle.tars_model.specs.declared.enum_desc.EnumDesc.{EnumDesc}
 use Rattle.tars_model.specs.declared.interface_desc.InterfaceDesc.{InterfaceDesc}
 use Rattle.tars_model.specs.declared.member.Member.{Member}
 use Rattle.tars_model.specs.declared.struct_desc.StructDesc.{StructDesc}
-use Rattle.idl_parse.specs.declared.span.Span.{Span}
+use Rattle.idl_lex.specs.declared.span.Span.{Span}
 use Rattle.idl_scene.specs.Items.{word}
 use Rattle.idl_scene.specs.Known.{Meaning, a_struct, an_enum, no_type, Known, Scene, find, is_struct, is_enum, members_of, each_once}
 use Rattle.idl_scene.specs.Types.{is_type}

@@ -12,7 +12,7 @@ use Rattle.tars_model.specs.Values.{is_unsigned}
 use Rattle.tars_model.specs.declared.member.Member.{Member}
 use Rattle.canonical_tree.specs.Says.{Pairwise, requirement_of, MemberSays}
 use Rattle.idl_parse.specs.TreeSpans.{TypeIn}
-use Rattle.idl_parse.specs.Meanings.{whole_number}
+use Rattle.idl_lex.specs.Meanings.{whole_number}
 use Rattle.idl_parse.specs.declared.tree.member.MemberTree.{MemberTree}
 use Rattle.idl_parse.specs.declared.tree.type_tree.TypeTree.{out-TypeTree}
 use Rattle.idl_scene.specs.Items.{word}

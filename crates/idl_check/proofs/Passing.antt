@@ -7,7 +7,7 @@ use Rattle.std.specs.Prelude.{nat_eq}
 use Rattle.tars_model.specs.Declarations.{Declared}
 use Rattle.tars_model.specs.Names.{IsName}
 use Rattle.tars_model.specs.Schemas.{IsNew, declared_names}
-use Rattle.idl_parse.specs.declared.span.Span.{Span}
+use Rattle.idl_lex.specs.declared.span.Span.{Span}
 use Rattle.idl_parse.specs.declared.tree.decl.DeclTree.{DeclTree}
 use Rattle.idl_parse.specs.declared.tree.type_tree.TypeTree.{TypeTree, out-TypeTree}
 use Rattle.canonical_tree.specs.Says.{NameSays}

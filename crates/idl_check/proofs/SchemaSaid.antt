@@ -7,7 +7,7 @@ use Rattle.tars_model.specs.Schemas as made
 use Rattle.tars_model.specs.Schemas.{IsSchema}
 use Rattle.tars_model.specs.declared.decl.Decl.{Decl}
 use Rattle.canonical_tree.specs.Says.{NameSays, Pairwise, HomeSays, EntriesSay, none, block as said_block}
-use Rattle.idl_parse.specs.declared.span.Span.{Span}
+use Rattle.idl_lex.specs.declared.span.Span.{Span}
 use Rattle.idl_parse.specs.declared.tree.module.Entry.{Entry}
 use Rattle.idl_parse.specs.declared.tree.module.Entry.TheVariants.{Module}
 use Rattle.idl_parse.specs.declared.tree.module.ModuleTree.{ModuleTree}

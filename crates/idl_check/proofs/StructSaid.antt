@@ -13,7 +13,7 @@ use Rattle.tars_model.specs.Values.{is_unsigned}
 use Rattle.tars_model.specs.declared.member.Member.{Member}
 use Rattle.tars_model.specs.declared.struct_desc.StructDesc.{StructDesc}
 use Rattle.canonical_tree.specs.Says.{Pairwise, MemberSays, StructSays}
-use Rattle.idl_parse.specs.declared.span.Span.{Span}
+use Rattle.idl_lex.specs.declared.span.Span.{Span}
 use Rattle.idl_parse.specs.declared.tree.decl.DeclTree.TheVariants as decls
 use Rattle.idl_parse.specs.declared.tree.decl.StructTree.{StructTree}
 use Rattle.idl_parse.specs.declared.tree.member.MemberTree.{MemberTree}

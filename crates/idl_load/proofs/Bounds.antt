@@ -7,8 +7,8 @@ use Rattle.std.specs.List.{All}
 use Rattle.std.specs.Prelude.{Ok, Err, nat_le, slice_range}
 use Rattle.facts.specs.ResultSteps.{◌>>=◌}
 use Rattle.idl_parse.specs.Files.{File, include_spans}
-use Rattle.idl_parse.specs.Meanings.{plain_text}
-use Rattle.idl_parse.specs.declared.span.Span.{Span}
+use Rattle.idl_lex.specs.Meanings.{plain_text}
+use Rattle.idl_lex.specs.declared.span.Span.{Span}
 use Rattle.idl_parse.specs.declared.tree.module.Entry.{Entry}
 use Rattle.idl_load.specs.LoadAnswers.{ForRead, HasLoaded}
 use Rattle.idl_load.specs.FileText.{FileText, tree, bad, IsText, file}

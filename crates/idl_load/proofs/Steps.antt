@@ -8,8 +8,8 @@ use Rattle.std.specs.Prelude.{nat_le, slice_range, Result, Ok, Err, IfSome, IsEr
 use Rattle.std.specs.Str.{bytes_eq, is_utf8}
 use Rattle.facts.specs.ResultSteps.{◌>>=◌}
 use Rattle.idl_parse.specs.Files.{File, include_spans}
-use Rattle.idl_parse.specs.Meanings.{plain_text}
-use Rattle.idl_parse.specs.declared.span.Span.{Span}
+use Rattle.idl_lex.specs.Meanings.{plain_text}
+use Rattle.idl_lex.specs.declared.span.Span.{Span}
 use Rattle.idl_parse.specs.declared.tree.module.Entry.{Entry}
 use Rattle.idl_parse.specs.declared.tree.module.Entry.TheVariants.{Include, Module}
 use Rattle.idl_parse.specs.declared.tree.module.ModuleTree.{ModuleTree}

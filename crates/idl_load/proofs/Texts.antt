@@ -5,18 +5,19 @@ use Rattle.std.specs.Prelude.{Result, Ok, Err, IfSome, IsErr, IsErrAnd}
 use Rattle.idl_parse.specs.Faults.{IsFault}
 use Rattle.idl_parse.specs.Files.{File}
 use Rattle.idl_parse.specs.Grammar.{nesting_limit, IsFile}
-use Rattle.idl_parse.specs.LexAnswers.{IsFaultOf}
+use Rattle.idl_lex.specs.LexAnswers.{IsFaultOf}
 use Rattle.idl_parse.specs.Parsed.{HasFault}
-use Rattle.idl_parse.specs.Tokens.{Tokens, IsLexFault}
-use Rattle.idl_parse.specs.declared.lex_fault.LexFault.{LexFault}
-use Rattle.idl_parse.specs.declared.lex_fault.LexFault.TheVariants as lexes
-use Rattle.idl_parse.specs.declared.lex_fault.LexWhy.{LexWhy}
+use Rattle.idl_lex.specs.Tokens.{Tokens, IsLexFault}
+use Rattle.idl_lex.specs.declared.lex_fault.LexFault.{LexFault}
+use Rattle.idl_lex.specs.declared.lex_fault.LexFault.TheVariants as lexes
+use Rattle.idl_lex.specs.declared.lex_fault.LexWhy.{LexWhy}
 use Rattle.idl_parse.specs.declared.parse_fault.ParseFault.{ParseFault}
 use Rattle.idl_parse.specs.declared.parse_fault.ParseFault.TheVariants as parses
 use Rattle.idl_parse.specs.declared.parse_fault.ParseWhy.{ParseWhy}
-use Rattle.idl_parse.specs.declared.token.Token.{Token}
+use Rattle.idl_lex.specs.declared.token.Token.{Token}
 use Rattle.idl_parse.specs.declared.tree.module.Entry.{Entry}
-use Rattle.idl_parse.proofs.CallerLemmas.{some_outcome, one_tokens, not_both, one_lex_fault, some_tree, one_file, one_fault}
+use Rattle.idl_lex.proofs.CallerLemmas.{some_outcome, one_tokens, not_both, one_lex_fault}
+use Rattle.idl_parse.proofs.CallerLemmas.{some_tree, one_file, one_fault}
 use Rattle.idl_load.specs.FileText.{FileText, tree, bad, IsText, too_long, no_tokens, no_file, file}
 use Rattle.idl_load.specs.LoadSteps.{text_of, lex_refused, parse_refused}
 use Rattle.idl_load.specs.declared.file_fault.FileFault.TheVariants.{TooLong, Lex, Parse}

@@ -2,10 +2,10 @@
 use Rattle.std.specs.Prelude.{ℕ, ◌<◌, ◌≤◌, List, length}
 use Rattle.idl_parse.specs.Faults.{IsFault}
 use Rattle.idl_parse.specs.Grammar.{nesting_limit, IsFile}
-use Rattle.idl_parse.specs.Tokens.{Tokens, IsLexFault}
-use Rattle.idl_parse.specs.declared.lex_fault.LexWhy.{LexWhy}
+use Rattle.idl_lex.specs.Tokens.{Tokens, IsLexFault}
+use Rattle.idl_lex.specs.declared.lex_fault.LexWhy.{LexWhy}
 use Rattle.idl_parse.specs.declared.parse_fault.ParseWhy.{ParseWhy}
-use Rattle.idl_parse.specs.declared.token.Token.{Token}
+use Rattle.idl_lex.specs.declared.token.Token.{Token}
 use Rattle.idl_parse.specs.declared.tree.module.Entry.{Entry}
 use Rattle.idl_load.specs.declared.file_fault.FileFault.{FileFault}
 use Rattle.idl_load.specs.declared.file_fault.FileFault.TheVariants.{TooLong, Lex, Parse}

@@ -3,8 +3,8 @@ use Rattle.std.specs.Prelude.{◌≡◌, ℕ, Bool, true, false, List, ◌++◌,
 use Rattle.std.specs.List.{list_any}
 use Rattle.std.specs.Str.{bytes_eq}
 use Rattle.idl_parse.specs.Files.{File}
-use Rattle.idl_parse.specs.declared.lex_fault.LexFault.{LexFault}
-use Rattle.idl_parse.specs.declared.lex_fault.LexFault.TheVariants as lexes
+use Rattle.idl_lex.specs.declared.lex_fault.LexFault.{LexFault}
+use Rattle.idl_lex.specs.declared.lex_fault.LexFault.TheVariants as lexes
 use Rattle.idl_parse.specs.declared.parse_fault.ParseFault.{ParseFault}
 use Rattle.idl_parse.specs.declared.parse_fault.ParseFault.TheVariants as parses
 use Rattle.idl_load.specs.FileText.{FileText, tree, bad, IsText}

@@ -1,4 +1,5 @@
-use idl_parse::{LexWhy, ParseWhy};
+use idl_lex::LexWhy;
+use idl_parse::ParseWhy;
 
 /// What is wrong with an interface file.
 #[derive(Clone, Copy)]

@@ -7,7 +7,8 @@ ghost use Rattle.tars_base.specs.Contents.{HoldsOnly};
 
 use crate::file_fault::FileFault;
 use crate::tree_fault::TreeFault;
-use idl_parse::{Ast, lex, parse};
+use idl_lex::lex;
+use idl_parse::{Ast, parse};
 use std::alloc::Global;
 use tars_base::MAX_FILE;
 

@@ -2,7 +2,8 @@ ghost use Rattle.std.specs.Prelude.{◌≡◌};
 ghost use Rattle.idl_load.specs.LoadSteps.{lex_refused, parse_refused};
 
 use crate::file_fault::FileFault;
-use idl_parse::{LexFault, ParseFault};
+use idl_lex::LexFault;
+use idl_parse::ParseFault;
 
 /// Why a text has no tree.
 #[derive(Clone, Copy)]

@@ -1,4 +1,3 @@
-pub mod Lexing
 pub mod Parsing
 pub mod Trees
 pub mod CallerLemmas

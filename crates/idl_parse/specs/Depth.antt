@@ -1,10 +1,10 @@
 -- How many types an index of tokens stands inside. `<` and `>` stand in types alone, so these are as many as `<` are
 -- open there (docs/IDL.md, "Faults of the grammar").
 use Rattle.std.specs.Prelude.{ℕ, zero, suc, ◌<◌, List, [], ◌∷◌}
-use Rattle.idl_parse.specs.declared.kind.Kind.{Kind}
-use Rattle.idl_parse.specs.declared.kind.Kind.TheVariants.{Sign}
-use Rattle.idl_parse.specs.declared.sign.Sign.TheVariants.{Less, Greater}
-use Rattle.idl_parse.specs.declared.token.Token.{Token}
+use Rattle.idl_lex.specs.declared.kind.Kind.{Kind}
+use Rattle.idl_lex.specs.declared.kind.Kind.TheVariants.{Sign}
+use Rattle.idl_lex.specs.declared.sign.Sign.TheVariants.{Less, Greater}
+use Rattle.idl_lex.specs.declared.token.Token.{Token}
 
 abbrev pub one_less : ℕ → ℕ
 one_less zero = zero

@@ -5,7 +5,7 @@ use Rattle.idl_parse.specs.Depth.{opened, Shallow}
 use Rattle.idl_parse.specs.Grammar.{IsFile}
 use Rattle.idl_parse.specs.declared.parse_fault.ParseWhy.{ParseWhy}
 use Rattle.idl_parse.specs.declared.parse_fault.ParseWhy.TheVariants.{Unexpected, TooDeep}
-use Rattle.idl_parse.specs.declared.token.Token.{Token}
+use Rattle.idl_lex.specs.declared.token.Token.{Token}
 use Rattle.idl_parse.specs.declared.tree.module.Entry.{Entry}
 
 -- the tokens of a file, however deep its types are nested

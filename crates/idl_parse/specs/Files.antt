@@ -1,10 +1,10 @@
 -- A file that is read, and the names that its includes give (docs/IDL.md, "Grammar").
 use Rattle.std.specs.Prelude.{◌≡◌, ◌<◌, ◌^◌, ℕ, Some, List, [], ◌∷◌, length, slice_get, slice_range}
 use Rattle.idl_parse.specs.Grammar.{nesting_limit, IsFile}
-use Rattle.idl_parse.specs.Texts.{TextSpells}
-use Rattle.idl_parse.specs.Tokens.{Tokens}
-use Rattle.idl_parse.specs.declared.span.Span.{Span}
-use Rattle.idl_parse.specs.declared.token.Token.{Token}
+use Rattle.idl_lex.specs.Texts.{TextSpells}
+use Rattle.idl_lex.specs.Tokens.{Tokens}
+use Rattle.idl_lex.specs.declared.span.Span.{Span}
+use Rattle.idl_lex.specs.declared.token.Token.{Token}
 use Rattle.idl_parse.specs.declared.tree.module.Entry.{Entry}
 use Rattle.idl_parse.specs.declared.tree.module.Entry.TheVariants.{Include, Module}
 

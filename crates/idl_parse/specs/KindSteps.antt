@@ -1,12 +1,12 @@
 -- For the proofs: kinds of tokens by numbers, to tell them apart.
 use Rattle.std.specs.Prelude.{ℕ, ◌==◌, Bool, false, ◌||◌, List, [], ◌∷◌, Option, Some, None}
-use Rattle.idl_parse.specs.declared.keyword.Keyword.{Keyword}
-use Rattle.idl_parse.specs.declared.keyword.Keyword.TheVariants as words
-use Rattle.idl_parse.specs.declared.kind.Kind.{Kind}
-use Rattle.idl_parse.specs.declared.kind.Kind.TheVariants as kinds
-use Rattle.idl_parse.specs.declared.sign.Sign.{Sign}
-use Rattle.idl_parse.specs.declared.sign.Sign.TheVariants as signs
-use Rattle.idl_parse.specs.declared.token.Token.{Token}
+use Rattle.idl_lex.specs.declared.keyword.Keyword.{Keyword}
+use Rattle.idl_lex.specs.declared.keyword.Keyword.TheVariants as words
+use Rattle.idl_lex.specs.declared.kind.Kind.{Kind}
+use Rattle.idl_lex.specs.declared.kind.Kind.TheVariants as kinds
+use Rattle.idl_lex.specs.declared.sign.Sign.{Sign}
+use Rattle.idl_lex.specs.declared.sign.Sign.TheVariants as signs
+use Rattle.idl_lex.specs.declared.token.Token.{Token}
 
 abbrev pub code_of_word : Keyword → ℕ
 code_of_word words.Void = 0

@@ -7,7 +7,7 @@ use Rattle.idl_parse.specs.declared.parse_fault.ParseFault.{ParseFault}
 use Rattle.idl_parse.specs.declared.parse_fault.ParseFault.TheVariants.{Bad, Memory}
 use Rattle.idl_parse.specs.declared.parser.halt.Halt.{Halt}
 use Rattle.idl_parse.specs.declared.parser.halt.Halt.TheVariants as halts
-use Rattle.idl_parse.specs.declared.token.Token.{Token}
+use Rattle.idl_lex.specs.declared.token.Token.{Token}
 use Rattle.idl_parse.specs.declared.tree.module.Entry.{Entry}
 
 -- the fault of a halt where these tokens are left, in a text of this length

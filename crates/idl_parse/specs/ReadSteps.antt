@@ -3,20 +3,21 @@
 use Rattle.std.specs.Prelude.{◌≡◌, ◌<◌, ℕ, zero, suc, Bool, true, false, if◌then◌else◌, Option, Some, None, Result, Ok, Err, List, [], ◌∷◌, ◌++◌, length}
 use Rattle.facts.specs.ResultSteps.{◌>>=◌}
 use Rattle.idl_parse.specs.KindSteps.{same_kind, begins}
-use Rattle.idl_parse.specs.Words.{span, basic_of, unsigned_of, requirement_of, literal_of, scoped_name}
+use Rattle.idl_lex.specs.Spans.{span}
+use Rattle.idl_parse.specs.Words.{basic_of, unsigned_of, requirement_of, literal_of, scoped_name}
 use Rattle.idl_parse.specs.Grammar.{start_of, is_there}
-use Rattle.idl_parse.specs.declared.keyword.Keyword.TheVariants as words
-use Rattle.idl_parse.specs.declared.kind.Kind.{Kind}
-use Rattle.idl_parse.specs.declared.kind.Kind.TheVariants as kinds
+use Rattle.idl_lex.specs.declared.keyword.Keyword.TheVariants as words
+use Rattle.idl_lex.specs.declared.kind.Kind.{Kind}
+use Rattle.idl_lex.specs.declared.kind.Kind.TheVariants as kinds
 use Rattle.idl_parse.specs.declared.parse_fault.ParseWhy.{ParseWhy}
 use Rattle.idl_parse.specs.declared.parse_fault.ParseWhy.TheVariants.{Unexpected, TooDeep}
 use Rattle.idl_parse.specs.declared.parser.halt.Halt.{Halt}
 use Rattle.idl_parse.specs.declared.parser.halt.Halt.TheVariants as halts
-use Rattle.idl_parse.specs.declared.sign.Sign.TheVariants.{OpenBrace, CloseBrace, OpenParen, CloseParen, OpenBracket, CloseBracket, Less, Greater, Comma, Semicolon, Equals, PathSep}
-use Rattle.idl_parse.specs.declared.keyword.Keyword.{Keyword}
-use Rattle.idl_parse.specs.declared.sign.Sign.{Sign}
-use Rattle.idl_parse.specs.declared.span.Span.{Span}
-use Rattle.idl_parse.specs.declared.token.Token.{Token}
+use Rattle.idl_lex.specs.declared.sign.Sign.TheVariants.{OpenBrace, CloseBrace, OpenParen, CloseParen, OpenBracket, CloseBracket, Less, Greater, Comma, Semicolon, Equals, PathSep}
+use Rattle.idl_lex.specs.declared.keyword.Keyword.{Keyword}
+use Rattle.idl_lex.specs.declared.sign.Sign.{Sign}
+use Rattle.idl_lex.specs.declared.span.Span.{Span}
+use Rattle.idl_lex.specs.declared.token.Token.{Token}
 use Rattle.idl_parse.specs.declared.tree.decl.DeclTree.{DeclTree}
 use Rattle.idl_parse.specs.declared.tree.decl.DeclTree.TheVariants as decls
 use Rattle.idl_parse.specs.declared.tree.decl.EnumItem.{EnumItem}

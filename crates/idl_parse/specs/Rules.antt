@@ -1,8 +1,8 @@
 -- What tokens spell, with the tokens after it, and how such relations are joined (docs/IDL.md,
 -- "Grammar"). A relation holds of the tokens, the tree that their prefix spells, and the tokens after.
 use Rattle.std.specs.Prelude.{◌≡◌, ◌⊎◌, Option, Some, None, List, [], ◌∷◌}
-use Rattle.idl_parse.specs.declared.kind.Kind.{Kind}
-use Rattle.idl_parse.specs.declared.token.Token.{Token}
+use Rattle.idl_lex.specs.declared.kind.Kind.{Kind}
+use Rattle.idl_lex.specs.declared.token.Token.{Token}
 
 abbrev pub Rel : Type 0 → Type 1
 Rel A = List Token → A → List Token → Type 0

@@ -1,10 +1,9 @@
 -- Tokens that mean something by themselves (docs/IDL.md, "Grammar").
 use Rattle.std.specs.Prelude.{Option, Some, None}
-use Rattle.idl_parse.specs.declared.keyword.Keyword.TheVariants as words
-use Rattle.idl_parse.specs.declared.kind.Kind.{Kind}
-use Rattle.idl_parse.specs.declared.kind.Kind.TheVariants.{Keyword, Number, Fraction, Text}
-use Rattle.idl_parse.specs.declared.span.Span.{Span}
-use Rattle.idl_parse.specs.declared.token.Token.{Token}
+use Rattle.idl_lex.specs.declared.keyword.Keyword.TheVariants as words
+use Rattle.idl_lex.specs.declared.kind.Kind.{Kind}
+use Rattle.idl_lex.specs.declared.kind.Kind.TheVariants.{Keyword, Number, Fraction, Text}
+use Rattle.idl_lex.specs.declared.span.Span.{Span}
 use Rattle.idl_parse.specs.declared.tree.literal.LiteralWord.{LiteralWord}
 use Rattle.idl_parse.specs.declared.tree.literal.LiteralWord.TheVariants as forms
 use Rattle.idl_parse.specs.declared.tree.member.Requirement.{Requirement}
@@ -12,10 +11,6 @@ use Rattle.idl_parse.specs.declared.tree.member.Requirement.TheVariants as requi
 use Rattle.idl_parse.specs.declared.tree.type_tree.BasicType.{BasicType}
 use Rattle.idl_parse.specs.declared.tree.type_tree.BasicType.TheVariants as basics
 use Rattle.idl_parse.specs.declared.tree.type_tree.ScopedName.{ScopedName}
-
--- the bytes of a token
-abbrev pub span : Token → Span
-span t = record { start = t.start; end = t.end }
 
 -- "bool" | "byte" | "short" | "int" | "long" | "float" | "double" | "string"
 abbrev pub basic_of : Kind → Option BasicType

@@ -5,8 +5,8 @@ ghost use Rattle.std.specs.List.{All};
 ghost use Rattle.idl_parse.specs.Files.{include_spans, AllSpell};
 ghost use Rattle.idl_parse.specs.TreeSpans.{EntryIn};
 
-use crate::escape::plain_text;
 use crate::tree::Entry;
+use idl_lex::plain_text;
 use std::alloc::{AllocError, Global};
 use tars_model::{Bytes8, List};
 

@@ -8,7 +8,7 @@ use Rattle.std.proofs.lemmas.List.{length-map, length-take-le}
 use Rattle.least_fault.specs.Conditions.{found_after}
 use Rattle.least_fault.specs.Least.{Notes}
 use Rattle.least_fault.proofs.Together.{notes_next}
-use Rattle.idl_parse.specs.declared.span.Span.{Span}
+use Rattle.idl_lex.specs.declared.span.Span.{Span}
 use Rattle.idl_scene.specs.Faults.{is_below, fault_if}
 use Rattle.idl_scene.specs.Items.{word}
 use Rattle.idl_scene.specs.Known.{Scene}

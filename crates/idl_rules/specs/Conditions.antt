@@ -2,7 +2,7 @@
 use Rattle.std.specs.Prelude.{ℕ, ◌-◌, is_some, if◌then◌else◌, Option, Some, None, List, [], ◌∷◌, ◌++◌, fold, map}
 use Rattle.least_fault.specs.Conditions.{Condition, found_after, found_by}
 use Rattle.idl_parse.specs.Files.{File}
-use Rattle.idl_parse.specs.declared.span.Span.{Span}
+use Rattle.idl_lex.specs.declared.span.Span.{Span}
 use Rattle.idl_parse.specs.declared.tree.decl.ConstTree.{ConstTree}
 use Rattle.idl_parse.specs.declared.tree.decl.DeclTree.{DeclTree}
 use Rattle.idl_parse.specs.declared.tree.decl.DeclTree.TheVariants as decls

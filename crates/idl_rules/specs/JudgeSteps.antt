@@ -3,7 +3,7 @@ use Rattle.std.specs.Prelude.{Option, None, List, [], ◌∷◌, ◌++◌, fold}
 use Rattle.std.specs.List.{flat_map}
 use Rattle.least_fault.specs.Conditions.{Condition, found_after, together}
 use Rattle.least_fault.specs.Least.{lesser, least_of}
-use Rattle.idl_parse.specs.declared.span.Span.{Span}
+use Rattle.idl_lex.specs.declared.span.Span.{Span}
 use Rattle.idl_parse.specs.declared.tree.func.ParamTree.{ParamTree}
 use Rattle.idl_parse.specs.declared.tree.type_tree.TypeTree.{TypeTree}
 use Rattle.idl_scene.specs.Faults.{is_below}

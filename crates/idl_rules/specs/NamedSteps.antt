@@ -1,6 +1,6 @@
 -- For the proofs: faults of a name that is declared, where there is one.
 use Rattle.std.specs.Prelude.{Bool, is_some, Option, List}
-use Rattle.idl_parse.specs.declared.span.Span.{Span}
+use Rattle.idl_lex.specs.declared.span.Span.{Span}
 use Rattle.idl_scene.specs.Faults.{fault_if}
 use Rattle.idl_scene.specs.Items.{word}
 use Rattle.idl_scene.specs.Known.{Scene, find}

@@ -3,7 +3,7 @@ use Rattle.std.specs.Prelude.{◌≡◌, ◌<◌, ℕ, nat_eq, if◌then◌else�
 use Rattle.std.specs.List.{list_any}
 use Rattle.std.specs.Ordering.{int_eq}
 use Rattle.tars_model.specs.Values.{is_signed}
-use Rattle.idl_parse.specs.declared.span.Span.{Span}
+use Rattle.idl_lex.specs.declared.span.Span.{Span}
 use Rattle.idl_parse.specs.declared.tree.decl.EnumItem.{EnumItem}
 use Rattle.idl_parse.specs.declared.tree.member.MemberTree.{MemberTree}
 use Rattle.idl_parse.specs.declared.tree.type_tree.TypeTree.{out-TypeTree}

@@ -12,7 +12,7 @@ ghost use Rattle.idl_rules.specs.NamedSteps.{twice_named, reserved_named, full_n
 ghost use Rattle.idl_rules.specs.Rules as spec;
 
 use crate::named::is_reserved;
-use idl_parse::Span;
+use idl_lex::Span;
 use idl_parse::tree::DeclTree;
 use idl_scene::{CheckWhy, Fault, Room, Scene, note_if, struct_depth, struct_size};
 

@@ -12,7 +12,7 @@ ghost use Rattle.idl_rules.specs.Conditions.{enumerator_rules};
 ghost use Rattle.idl_rules.specs.JudgeSteps.{found_in};
 ghost use Rattle.idl_rules.specs.PartSteps.{number_after_int, faults_of_number};
 
-use idl_parse::Span;
+use idl_lex::Span;
 use idl_parse::tree::EnumItem;
 use idl_scene::{CheckWhy, Fault, Scene, note_if};
 

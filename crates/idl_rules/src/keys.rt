@@ -14,7 +14,7 @@ ghost use Rattle.idl_rules.specs.Conditions.{key_rules};
 ghost use Rattle.idl_rules.specs.JudgeSteps.{found_at};
 ghost use Rattle.idl_rules.specs.Rules as spec;
 
-use idl_parse::Span;
+use idl_lex::Span;
 use idl_parse::tree::KeyTree;
 use idl_scene::{CheckWhy, Fault, Meaning, Scene, note_if};
 

@@ -12,7 +12,7 @@ ghost use Rattle.idl_rules.specs.JudgeSteps.{list_faults, lists_faults};
 ghost use Rattle.idl_rules.specs.Parts.{declaration_lists, name_list, param_list};
 
 use crate::named::judge_names;
-use idl_parse::Span;
+use idl_lex::Span;
 use idl_parse::tree::{DeclTree, EnumTree, FuncTree, InterfaceTree, StructTree};
 use idl_scene::{Fault, Meaning, Scene, struct_depth, struct_size};
 use std::alloc::{AllocError, Global};

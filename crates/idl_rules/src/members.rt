@@ -13,7 +13,7 @@ ghost use Rattle.idl_rules.specs.PartSteps.{tags_with, faults_of_tag, faults_of_
 ghost use Rattle.idl_rules.specs.Rules as spec;
 
 use crate::literals::judge_literal;
-use idl_parse::Span;
+use idl_lex::Span;
 use idl_parse::tree::{ArrayLen, Literal, MemberTree, TypeTree};
 use idl_scene::{CheckWhy, Fault, Scene, note_if};
 use indexmap::IndexSet;

@@ -4,7 +4,7 @@ ghost use Rattle.std.specs.Prelude.{◌≡◌, ◌&&◌, map, OnOk, IfOk};
 ghost use Rattle.std.specs.List.{All};
 ghost use Rattle.least_fault.specs.Least.{Notes};
 ghost use Rattle.idl_parse.specs.TreeSpans.{NameIn};
-ghost use Rattle.idl_parse.specs.declared.span.Span.{Span};
+ghost use Rattle.idl_lex.specs.declared.span.Span.{Span};
 ghost use Rattle.idl_scene.specs.Faults.{is_below};
 ghost use Rattle.idl_scene.specs.Items.{word};
 ghost use Rattle.idl_scene.specs.Known.{once_more, each_once};
@@ -13,7 +13,7 @@ ghost use Rattle.idl_rules.specs.SeenSteps.{faults_of_name};
 ghost use Rattle.idl_rules.specs.Parts.{name_list};
 ghost use Rattle.idl_rules.specs.Rules as spec;
 
-use idl_parse::Span;
+use idl_lex::Span;
 use idl_parse::tree::{EnumItem, FuncTree, MemberTree, ParamTree};
 use idl_scene::{CheckWhy, Fault, Scene, WordSet, note_if};
 use std::alloc::{AllocError, Global};

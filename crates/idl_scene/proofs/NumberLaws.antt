@@ -2,8 +2,8 @@
 use Rattle.std.proofs.Common.{◌≡◌, ℕ, zero, suc, ◌^◌, ◌-◌, ◌==◌, ◌≤◌, ◌&&◌, Bool, true, false, cond, is_some, Option, Some, None, List, drop, nat_le, nat_lt, ℤ, refl, ap, ◌∙◌, arith}
 use Rattle.std.specs.Prelude.{pos, negsuc, IfSome, slice_index}
 use Rattle.std.proofs.lemmas.Grind.{common_steps}
-use Rattle.idl_parse.specs.Forms.{magnitude, is_in_range}
-use Rattle.idl_parse.specs.Meanings.{negative, whole_number}
+use Rattle.idl_lex.specs.Forms.{magnitude, is_in_range}
+use Rattle.idl_lex.specs.Meanings.{negative, whole_number}
 use Rattle.idl_parse.specs.declared.tree.type_tree.BasicType.{BasicType}
 use Rattle.idl_parse.specs.declared.tree.type_tree.BasicType.TheVariants as basics
 use Rattle.idl_parse.specs.declared.tree.type_tree.TypeTree.TheOpen as layer

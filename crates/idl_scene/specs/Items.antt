@@ -2,7 +2,7 @@
 use Rattle.std.specs.Prelude.{ℕ, ◌+◌, List, [], ◌∷◌, ◌++◌, map, slice_range}
 use Rattle.std.specs.List.{flat_map}
 use Rattle.idl_parse.specs.Files.{File}
-use Rattle.idl_parse.specs.declared.span.Span.{Span}
+use Rattle.idl_lex.specs.declared.span.Span.{Span}
 use Rattle.idl_parse.specs.declared.tree.decl.DeclTree.{DeclTree}
 use Rattle.idl_parse.specs.declared.tree.module.Entry.{Entry}
 use Rattle.idl_parse.specs.declared.tree.module.Entry.TheVariants.{Include, Module}

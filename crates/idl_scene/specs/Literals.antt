@@ -3,8 +3,8 @@ use Rattle.std.specs.Prelude.{ℕ, nat_le, Bool, true, false, ◌&&◌, if◌the
 use Rattle.std.specs.List.{list_any}
 use Rattle.std.specs.Str.{bytes_eq}
 use Rattle.tars_model.specs.Values.{is_signed, is_unsigned}
-use Rattle.idl_parse.specs.Meanings.{whole_number, plain_text}
-use Rattle.idl_parse.specs.declared.span.Span.{Span}
+use Rattle.idl_lex.specs.Meanings.{whole_number, plain_text}
+use Rattle.idl_lex.specs.declared.span.Span.{Span}
 use Rattle.idl_parse.specs.declared.tree.decl.EnumItem.{EnumItem}
 use Rattle.idl_parse.specs.declared.tree.literal.Literal.{Literal}
 use Rattle.idl_parse.specs.declared.tree.literal.Literal.TheVariants.{Word, Named}

@@ -1,8 +1,8 @@
 -- For the proofs: numbers as the code keeps them.
 use Rattle.std.specs.Prelude.{ℕ, nat_lt, if◌then◌else◌, ℤ, pos, negsuc, Option, Some, None}
 use Rattle.tars_model.specs.Values.{is_signed}
-use Rattle.idl_parse.specs.Meanings.{whole_number}
-use Rattle.idl_parse.specs.declared.span.Span.{Span}
+use Rattle.idl_lex.specs.Meanings.{whole_number}
+use Rattle.idl_lex.specs.declared.span.Span.{Span}
 use Rattle.idl_scene.specs.Items.{word}
 use Rattle.idl_scene.specs.Known.{Scene}
 

@@ -1,7 +1,7 @@
 -- Types as they are written, and what is wrong with them (docs/IDL.md, "Rules").
 use Rattle.std.specs.Prelude.{ℕ, ◌+◌, nat_lt, Bool, true, false, ◌||◌, not, if◌then◌else◌, Option, Some, None, List, [], ◌∷◌, ◌++◌}
 use Rattle.tars_model.specs.Types.{greater}
-use Rattle.idl_parse.specs.declared.span.Span.{Span}
+use Rattle.idl_lex.specs.declared.span.Span.{Span}
 use Rattle.idl_parse.specs.declared.tree.type_tree.BasicType.{BasicType}
 use Rattle.idl_parse.specs.declared.tree.type_tree.BasicType.TheVariants as basics
 use Rattle.idl_parse.specs.declared.tree.type_tree.ScopedName.{ScopedName}

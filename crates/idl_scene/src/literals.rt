@@ -5,8 +5,8 @@ ghost use Rattle.std.specs.List.{list_any};
 ghost use Rattle.std.specs.Str.{bytes_eq};
 ghost use Rattle.idl_parse.specs.TreeSpans.{IfThere, LiteralIn, NameIn, NumberIn, ScopedIn, StandsAt, TypeIn, kind_of};
 ghost use Rattle.idl_parse.specs.declared.tree.type_tree.TypeTree.{out-TypeTree};
-ghost use Rattle.idl_parse.specs.Meanings.{whole_number, plain_text};
-ghost use Rattle.idl_parse.specs.declared.kind.Kind.TheVariants as kinds;
+ghost use Rattle.idl_lex.specs.Meanings.{whole_number, plain_text};
+ghost use Rattle.idl_lex.specs.declared.kind.Kind.TheVariants as kinds;
 ghost use Rattle.idl_scene.specs.Items.{word, word as word_at};
 ghost use Rattle.idl_scene.specs.Types.{meaning_of};
 ghost use Rattle.idl_scene.specs.Known.{enumerators_of};
@@ -17,8 +17,8 @@ ghost use Rattle.idl_scene.specs.NumberSteps.{long_of};
 use crate::known::Meaning;
 use crate::scene::Scene;
 use crate::types::{first_of_name, is_enum};
+use idl_lex::{Span, plain_text};
 use idl_parse::tree::{BasicType, Literal, LiteralWord, ScopedName, TypeTree};
-use idl_parse::{Span, plain_text};
 use std::alloc::{AllocError, Global};
 
 /// Where a literal begins.

@@ -1,6 +1,6 @@
 ghost use Rattle.std.specs.Prelude.{◌≡◌};
 ghost use Rattle.idl_parse.specs.TreeSpans.{NameIn, NumberIn, ScopedIn, IfThere};
-ghost use Rattle.idl_parse.specs.Meanings.{whole_number};
+ghost use Rattle.idl_lex.specs.Meanings.{whole_number};
 ghost use Rattle.idl_scene.specs.NumberSteps.{long_of, tag_at, tag_of_option};
 ghost use Rattle.idl_scene.specs.Items.{word};
 ghost use Rattle.idl_scene.specs.Known.{find};
@@ -8,8 +8,8 @@ ghost use Rattle.idl_scene.specs.KnownSteps.{meant};
 ghost use Rattle.idl_scene.specs.Types.{home_at, meaning_of};
 
 use crate::known::{Meaning, Names, Room};
+use idl_lex::{Span, whole_number};
 use idl_parse::tree::ScopedName;
-use idl_parse::{Span, whole_number};
 use std::marker::Model;
 
 /// Where a declaration stands, and what is known there.

@@ -11,7 +11,7 @@ use Rattle.tars_model.specs.Schemas.{EnumFits}
 use Rattle.tars_model.specs.Values.{is_signed}
 use Rattle.tars_model.specs.declared.enum_desc.Item.{Item as Enumerator}
 use Rattle.idl_parse.specs.TreeSpans.{NameIn, ItemIn, DeclIn}
-use Rattle.idl_parse.specs.declared.span.Span.{Span}
+use Rattle.idl_lex.specs.declared.span.Span.{Span}
 use Rattle.idl_parse.specs.declared.tree.decl.DeclTree.TheVariants as decls
 use Rattle.idl_parse.specs.declared.tree.decl.EnumItem.{EnumItem}
 use Rattle.idl_parse.specs.declared.tree.decl.EnumTree.{EnumTree}

@@ -9,7 +9,7 @@ use Rattle.least_fault.specs.Conditions.{found_after}
 use Rattle.least_fault.proofs.Walks.{nothing_in}
 use Rattle.tars_model.specs.Names.{IsName}
 use Rattle.idl_parse.specs.TreeSpans.{NameIn}
-use Rattle.idl_parse.specs.declared.span.Span.{Span}
+use Rattle.idl_lex.specs.declared.span.Span.{Span}
 use Rattle.idl_scene.specs.Items.{word}
 use Rattle.idl_scene.specs.Known.{Scene}
 use Rattle.idl_scene.specs.declared.check_fault.CheckWhy.TheVariants.{TwiceName, BadIdentifier, TooMany}

@@ -17,11 +17,11 @@ use Rattle.tars_model.specs.declared.value.Value.{Value, out-Value}
 use Rattle.tars_model.specs.declared.value.Value.TheVariants as values
 use Rattle.tars_model.specs.declared.value.Value.TheVariants.{outs-Bool as outs-Truth, outs-Num, outs-Text as outs-Words}
 use Rattle.tars_model.proofs.ToldLaws.{told_fits_bool, told_fits_num, told_fits_text}
-use Rattle.idl_parse.proofs.CallerLemmas.{unescaped_length}
-use Rattle.idl_parse.specs.Meanings.{whole_number, plain_text}
+use Rattle.idl_lex.proofs.CallerLemmas.{unescaped_length}
+use Rattle.idl_lex.specs.Meanings.{whole_number, plain_text}
 use Rattle.idl_parse.specs.TreeSpans as tree
 use Rattle.idl_parse.specs.TreeSpans.{TypeIn, LiteralIn}
-use Rattle.idl_parse.specs.declared.span.Span.{Span}
+use Rattle.idl_lex.specs.declared.span.Span.{Span}
 use Rattle.idl_parse.specs.declared.tree.literal.Literal.{Literal}
 use Rattle.idl_parse.specs.declared.tree.literal.Literal.TheVariants as literals
 use Rattle.idl_parse.specs.declared.tree.literal.LiteralWord.{LiteralWord}

@@ -14,7 +14,7 @@ use Rattle.tars_model.specs.declared.value.Value.{Value, out-Value, map-Value, f
 use Rattle.tars_model.specs.declared.value.Value.TheOpen as value
 use Rattle.tars_model.specs.declared.value.Value.TheVariants as values
 use Rattle.tars_model.specs.declared.value.Value.TheVariants.{outs-Num, outs-Struct as outs-Members}
-use Rattle.idl_parse.specs.declared.span.Span.{Span}
+use Rattle.idl_lex.specs.declared.span.Span.{Span}
 use Rattle.idl_parse.specs.declared.tree.type_tree.ScopedName.{ScopedName}
 use Rattle.idl_scene.specs.Items.{word}
 use Rattle.idl_scene.specs.Known.{Meaning, Scene, is_struct, is_enum, depth_of, size_of}

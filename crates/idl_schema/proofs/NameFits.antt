@@ -2,11 +2,11 @@
 use Rattle.std.proofs.Common.{◌≡◌, ◌≢◌, ℕ, Bool, true, false, ◌||◌, List, [], ◌∷◌, ◌++◌, refl, sym, ap, ◌∙◌, codes, All}
 use Rattle.std.proofs.lemmas.List.Elements.{All-from_recursion}
 use Rattle.tars_model.specs.Names.{keywords, IsName}
-use Rattle.idl_parse.specs.Spellings.{keyword_text}
+use Rattle.idl_lex.specs.Spellings.{keyword_text}
 use Rattle.idl_parse.specs.TreeSpans.{NameIn}
-use Rattle.idl_parse.specs.declared.keyword.Keyword.{Keyword}
-use Rattle.idl_parse.specs.declared.keyword.Keyword.TheVariants as words
-use Rattle.idl_parse.specs.declared.span.Span.{Span}
+use Rattle.idl_lex.specs.declared.keyword.Keyword.{Keyword}
+use Rattle.idl_lex.specs.declared.keyword.Keyword.TheVariants as words
+use Rattle.idl_lex.specs.declared.span.Span.{Span}
 use Rattle.idl_scene.specs.Items.{word}
 use Rattle.idl_rules.specs.Rules.{is_reserved}
 

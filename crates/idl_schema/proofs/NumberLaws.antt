@@ -3,8 +3,8 @@ use Rattle.std.proofs.Common.{◌≡◌, ◌^◌, ◌-◌, ◌==◌, drop, ℕ, 
 use Rattle.std.proofs.lemmas.Bool.Decides.{nat_tests}
 use Rattle.std.specs.Prelude.{nat_le, slice_index, IfSome}
 use Rattle.tars_model.specs.Values.{is_signed, is_unsigned}
-use Rattle.idl_parse.specs.Forms.{magnitude, is_in_range}
-use Rattle.idl_parse.specs.Meanings.{negative, whole_number}
+use Rattle.idl_lex.specs.Forms.{magnitude, is_in_range}
+use Rattle.idl_lex.specs.Meanings.{negative, whole_number}
 
 negative_within : (n : ℕ) → is_signed 63 (negative n) ≡ true → nat_le n (2 ^ 63) ≡ true
 negative_within zero e = refl

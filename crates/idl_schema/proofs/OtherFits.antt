@@ -13,7 +13,7 @@ use Rattle.tars_model.specs.declared.func_desc.FuncDesc.{FuncDesc}
 use Rattle.tars_model.specs.declared.func_desc.Param.{Param}
 use Rattle.idl_parse.specs.Nesting.{IsNested, FuncNests, ParamNests, DeclNests}
 use Rattle.idl_parse.specs.TreeSpans.{IfThere, NameIn, TypeIn, ParamIn, FuncIn, DeclIn}
-use Rattle.idl_parse.specs.declared.span.Span.{Span}
+use Rattle.idl_lex.specs.declared.span.Span.{Span}
 use Rattle.idl_parse.specs.declared.tree.decl.ConstTree.{ConstTree}
 use Rattle.idl_parse.specs.declared.tree.decl.DeclTree.TheVariants as decls
 use Rattle.idl_parse.specs.declared.tree.decl.InterfaceTree.{InterfaceTree}

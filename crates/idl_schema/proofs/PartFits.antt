@@ -11,7 +11,7 @@ use Rattle.tars_model.specs.Schemas.{declared_names, IsNew, IsDefault, absent, l
 use Rattle.tars_model.specs.Values.{is_unsigned}
 use Rattle.idl_parse.specs.Nesting.{MemberNests}
 use Rattle.idl_parse.specs.TreeSpans.{IfThere, LiteralIn, TypeIn, MemberIn}
-use Rattle.idl_parse.specs.declared.span.Span.{Span}
+use Rattle.idl_lex.specs.declared.span.Span.{Span}
 use Rattle.idl_parse.specs.declared.tree.literal.Literal.{Literal}
 use Rattle.idl_parse.specs.declared.tree.member.MemberTree.{MemberTree}
 use Rattle.idl_parse.specs.declared.tree.type_tree.TypeTree.{TypeTree, out-TypeTree}

@@ -5,13 +5,13 @@ use Rattle.std.proofs.lemmas.List.Elements.{All-take, All-drop, All-from_get_or,
 use Rattle.std.specs.Char.{digit_value}
 use Rattle.std.specs.List.{AllByRecursion}
 use Rattle.std.specs.Prelude.{slice_range, nat_lt}
-use Rattle.idl_parse.specs.Bytes.{escaped}
-use Rattle.idl_parse.specs.Meanings.{plain_text}
-use Rattle.idl_parse.specs.Texts.{UnitSpells, UnitsSpell, TextSpells, IsTextPrefix}
-use Rattle.idl_parse.specs.Texts.UnitSpells.{plain, short, hex}
-use Rattle.idl_parse.specs.Texts.UnitsSpell.{none, more}
-use Rattle.idl_parse.specs.declared.span.Span.{Span}
-use Rattle.idl_parse.proofs.CallerLemmas.{text_read}
+use Rattle.idl_lex.specs.Bytes.{escaped}
+use Rattle.idl_lex.specs.Meanings.{plain_text}
+use Rattle.idl_lex.specs.Texts.{UnitSpells, UnitsSpell, TextSpells, IsTextPrefix}
+use Rattle.idl_lex.specs.Texts.UnitSpells.{plain, short, hex}
+use Rattle.idl_lex.specs.Texts.UnitsSpell.{none, more}
+use Rattle.idl_lex.specs.declared.span.Span.{Span}
+use Rattle.idl_lex.proofs.CallerLemmas.{text_read}
 use Rattle.idl_scene.specs.Items.{word}
 use Rattle.idl_schema.specs.Faultless.{AreBytes}
 

@@ -4,7 +4,7 @@ use Rattle.tars_model.specs.Declarations.{Declared}
 use Rattle.tars_model.specs.Names.{IsName}
 use Rattle.tars_model.specs.Schemas.{StructFits, EnumFits, ConstFits, KeyFits, InterfaceFits}
 use Rattle.idl_parse.specs.TreeSpans.{NameIn}
-use Rattle.idl_parse.specs.declared.span.Span.{Span}
+use Rattle.idl_lex.specs.declared.span.Span.{Span}
 use Rattle.idl_parse.specs.declared.tree.decl.ConstTree.{ConstTree}
 use Rattle.idl_parse.specs.declared.tree.decl.DeclTree.{DeclTree}
 use Rattle.idl_parse.specs.declared.tree.decl.DeclTree.TheVariants as decls

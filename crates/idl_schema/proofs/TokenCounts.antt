@@ -3,13 +3,13 @@ use Rattle.std.proofs.Common.{◌<◌, ◌≤◌, ◌+◌, ℕ, zero, suc, Optio
 use Rattle.idl_parse.specs.Files.{IsFileText}
 use Rattle.idl_parse.specs.Grammar.{nesting_limit, SpanOf, Scoped, Array, LiteralOf, VectorOf, MapOf, TypeOf, Typed, Block, Listed, Member, Struct, Item, Items, Enum, Const, Key, Param, Ret, Params, Func, Interface, Decl, EntryOf}
 use Rattle.idl_parse.specs.Rules.{Rel, Gives, ◌⟫◌, One, Means, Either, Maybe, Many, none, more}
-use Rattle.idl_parse.specs.Tokens.{Tokens, AreLexemes}
-use Rattle.idl_parse.specs.Tokens.AreLexemes.{none as no_lexeme, then_trivia, then_token}
-use Rattle.idl_parse.specs.declared.kind.Kind.{Kind}
-use Rattle.idl_parse.specs.declared.token.Token.{Token}
+use Rattle.idl_lex.specs.Tokens.{Tokens, AreLexemes}
+use Rattle.idl_lex.specs.Tokens.AreLexemes.{none as no_lexeme, then_trivia, then_token}
+use Rattle.idl_lex.specs.declared.kind.Kind.{Kind}
+use Rattle.idl_lex.specs.declared.token.Token.{Token}
 use Rattle.idl_parse.specs.declared.tree.module.Entry.{Entry}
 use Rattle.idl_parse.specs.declared.tree.type_tree.TypeTree.{TypeTree}
-use Rattle.idl_parse.proofs.Lexing.Lexemes.LexemeLaws.{lexeme_shorter}
+use Rattle.idl_lex.proofs.Lexing.Lexemes.LexemeLaws.{lexeme_shorter}
 use Rattle.idl_schema.specs.Faultless.{decl_count, entry_decls}
 
 -- ---- tokens of a text

@@ -1,9 +1,9 @@
 -- For the proofs: numbers of declarations that fit the code's types.
 use Rattle.std.specs.Prelude.{◌≡◌, ℕ, true, List}
 use Rattle.tars_model.specs.Values.{is_signed, is_unsigned}
-use Rattle.idl_parse.specs.Meanings.{whole_number}
+use Rattle.idl_lex.specs.Meanings.{whole_number}
 use Rattle.idl_parse.specs.TreeSpans.{IfThere, MemberIn}
-use Rattle.idl_parse.specs.declared.span.Span.{Span}
+use Rattle.idl_lex.specs.declared.span.Span.{Span}
 use Rattle.idl_parse.specs.declared.tree.literal.Literal.{Literal}
 use Rattle.idl_parse.specs.declared.tree.literal.Literal.TheVariants as literals
 use Rattle.idl_parse.specs.declared.tree.literal.LiteralWord.TheVariants as words

@@ -20,8 +20,8 @@ use Rattle.tars_model.specs.declared.ty.Ty.TheVariants as tys
 use Rattle.tars_model.specs.declared.value.Value.{Value}
 use Rattle.tars_model.specs.declared.value.Value.TheVariants as values
 use Rattle.idl_parse.specs.Files.{File}
-use Rattle.idl_parse.specs.Meanings.{whole_number, plain_text}
-use Rattle.idl_parse.specs.declared.span.Span.{Span}
+use Rattle.idl_lex.specs.Meanings.{whole_number, plain_text}
+use Rattle.idl_lex.specs.declared.span.Span.{Span}
 use Rattle.idl_parse.specs.declared.tree.decl.ConstTree.{ConstTree}
 use Rattle.idl_parse.specs.declared.tree.decl.DeclTree.{DeclTree}
 use Rattle.idl_parse.specs.declared.tree.decl.DeclTree.TheVariants as decls

@@ -12,7 +12,7 @@ use crate::literals::literal_value;
 use crate::members::members_of;
 use crate::place::Place;
 use crate::types::resolved;
-use idl_parse::Span;
+use idl_lex::Span;
 use idl_parse::tree::{ConstTree, InterfaceTree, KeyTree, StructTree};
 use std::alloc::{AllocError, Global};
 use tars_model::{ConstDesc, InterfaceDesc, KeyDesc, List, Name, StructDesc};

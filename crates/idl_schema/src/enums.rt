@@ -10,7 +10,7 @@ ghost use Rattle.idl_schema.specs.SchemaOf as spec;
 
 use crate::literals::number;
 use crate::place::Place;
-use idl_parse::Span;
+use idl_lex::Span;
 use idl_parse::tree::{EnumItem, EnumTree};
 use std::alloc::{AllocError, Global};
 use tars_model::{EnumDesc, Item, List, Name};

@@ -3,7 +3,7 @@
 ghost use Rattle.std.specs.Prelude.{◌≡◌, true, IfOk};
 ghost use Rattle.tars_model.specs.Values.{is_unsigned};
 ghost use Rattle.tars_model.specs.declared.ty.Ty.{out-Ty};
-ghost use Rattle.idl_parse.specs.Meanings.{whole_number};
+ghost use Rattle.idl_lex.specs.Meanings.{whole_number};
 ghost use Rattle.idl_parse.specs.TreeSpans.{IfThere, NumberIn, StandsAt, LiteralIn, kind_of};
 ghost use Rattle.idl_parse.specs.declared.tree.literal.Literal.TheVariants as literals;
 ghost use Rattle.idl_scene.specs.Items.{word};
@@ -11,8 +11,8 @@ ghost use Rattle.idl_schema.specs.Reading.{IsLong, LiteralLong};
 ghost use Rattle.idl_schema.specs.SchemaOf as spec;
 
 use crate::place::Place;
+use idl_lex::{Span, plain_text, whole_number};
 use idl_parse::tree::{Literal, LiteralWord};
-use idl_parse::{Span, plain_text, whole_number};
 use std::alloc::{AllocError, Global};
 use tars_model::{Item, Schema, Ty, Value, default_of};
 

@@ -6,7 +6,7 @@ ghost use Rattle.idl_scene.specs.Items.{word};
 ghost use Rattle.idl_schema.specs.SchemaOf.{struct_number, enum_number, type_named, module_of, named_type};
 
 use crate::building::Building;
-use idl_parse::Span;
+use idl_lex::Span;
 use idl_parse::tree::ScopedName;
 use std::marker::Model;
 use tars_model::Ty;

@@ -1,11 +1,12 @@
 //! Interface files as they are parsed.
 
 ghost use Rattle.std.specs.Prelude.{◌<◌, ◌^◌, length};
-ghost use Rattle.idl_parse.specs.Tokens.{Tokens as TokensOf};
+ghost use Rattle.idl_lex.specs.Tokens.{Tokens as TokensOf};
 
 use crate::shape::put_shape;
 use crate::tokens::put_lex_fault;
-use idl_parse::{Ast, ParseFault, Token, lex, parse};
+use idl_lex::{Token, lex};
+use idl_parse::{Ast, ParseFault, parse};
 use row_pages::Page;
 use std::str;
 

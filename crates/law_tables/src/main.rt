@@ -1,7 +1,7 @@
-//! Worked cases for `tars_base`, `tars_model`, `tars_wire` and `idl_parse`: the files `data/*.rows` have the cases, a
-//! row each, and `stdout` what each of them comes to. What comes of a row was worked by hand from docs/PROTOCOL.md,
-//! docs/IDL.md and docs/SCRIPTS.md; it is printed in the row's place, and comments and empty lines are printed as they
-//! are.
+//! Worked cases for `tars_base`, `tars_model`, `tars_wire`, `idl_lex` and `idl_parse`: the files `data/*.rows` have the
+//! cases, a row each, and `stdout` what each of them comes to. What comes of a row was worked by hand from
+//! docs/PROTOCOL.md, docs/IDL.md and docs/SCRIPTS.md; it is printed in the row's place, and comments and empty lines are
+//! printed as they are.
 //!
 //! The program takes the names of files. Of a file that is no table it prints whether its bytes are a body
 //! of tagged fields (docs/PROTOCOL.md, "Reading"), so that scanning can be timed.

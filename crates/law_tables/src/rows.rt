@@ -7,7 +7,7 @@ use crate::files::put_file;
 use crate::outside::{put_copy, put_reads, put_status, put_writes};
 use crate::tokens::{put_mebibyte, put_tokens_of};
 use crate::walk::put_walk;
-use idl_parse::LexWhy;
+use idl_lex::LexWhy;
 use row_pages::{Page, Rows, bytes_of, split_word};
 use tars_wire::scan;
 

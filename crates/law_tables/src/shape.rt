@@ -2,7 +2,7 @@
 //! type and a literal stand by the name of their variant, and after `@` is the span of a word that
 //! the tree keeps as a span.
 
-use idl_parse::Span;
+use idl_lex::Span;
 use idl_parse::tree::*;
 use row_pages::Page;
 use std::str;

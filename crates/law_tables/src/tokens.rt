@@ -2,7 +2,7 @@
 
 ghost use Rattle.std.specs.Prelude.{◌<◌, ◌^◌, length};
 
-use idl_parse::{LexFault, Token, lex};
+use idl_lex::{LexFault, Token, lex};
 use row_pages::Page;
 
 /// How many bytes a mebibyte has.

@@ -2,10 +2,10 @@
 use Rattle.std.proofs.Common.{◌≡◌, ◌⊎◌, inl, inr, ℕ, zero, suc, true, false, List, [], ◌∷◌, Option, Some, None, refl, sym, ap, ◌∙◌, subst}
 use Rattle.std.specs.Prelude.{slice_get, nat_le, if◌then◌else◌}
 use Rattle.session_model.specs.Sessions.{WIDTH, live_node}
-use Rattle.session_model.specs.declared.loaded.CallSpec.{CallSpec}
+use Rattle.session_model.specs.declared.session.CallSpec.{CallSpec}
 use Rattle.session_model.specs.declared.report.Refusal.TheVariants as refusal
-use Rattle.plan_course.specs.Packets.{Request}
-use Rattle.plan_course.specs.Servants.{Setting}
+use Rattle.rpc_packet.specs.declared.request.Request.{Request}
+use Rattle.session_model.specs.declared.session.Session.{Session}
 use Rattle.plan_course.specs.Courses.{Link, Course, Desk, link_of, at_node, changed_at, in_flight, called, not_sent, refused_call, is_sent, serves, answers_next, works, read_to, news, answers_stream, came, delivers, with_desk, delivered_at}
 use Rattle.plan_course.specs.Legal.{got_of, got_at}
 use Rattle.plan_course.proofs.Lists.{fold_keeps, same_or_other, of_cond}
@@ -25,11 +25,11 @@ link_got zero j change links same = refl
 link_got (suc k) zero change links same = refl
 link_got (suc k) (suc j) change links same = place_got k j change links same
 
-pub serves_got : (s : Setting) (bytes : Option ℕ) (link : Link) → (serves s bytes link).got ≡ link.got
+pub serves_got : (s : Session) (bytes : Option ℕ) (link : Link) → (serves s bytes link).got ≡ link.got
 unfolding serves
 serves_got s bytes link = refl
 
-pub works_got : (s : Setting) (link : Link) → (works s link).got ≡ link.got
+pub works_got : (s : Session) (link : Link) → (works s link).got ≡ link.got
 unfolding works
 works_got s link = go (slice_get link.accepted link.taken)
   where
@@ -39,7 +39,7 @@ works_got s link = go (slice_get link.accepted link.taken)
 
 -- ---- the cases of a call and of a delivery
 
-pub called_by : (s : Setting) (c : Course) (spec : CallSpec) (Q : Course → Type 0)
+pub called_by : (s : Session) (c : Course) (spec : CallSpec) (Q : Course → Type 0)
     → (nat_le WIDTH (in_flight spec.line c.calls) ≡ true → Q (not_sent c (refused_call spec None refusal.Full)))
     → (nat_le WIDTH (in_flight spec.line c.calls) ≡ false → c.closed ≡ true → Q (not_sent c (refused_call spec live_node (refusal.Closed 0))))
     → (nat_le WIDTH (in_flight spec.line c.calls) ≡ false → c.closed ≡ false → Q (is_sent s c spec)) → Q (called s c spec)
@@ -54,7 +54,7 @@ called_by s c spec Q full late sent =
 abbrev pub begun : Course → Link → ℕ → Desk
 begun c link to = record { calls = c.calls; link = record link { delivered = to } }
 
-pub deliver_by : (s : Setting) (c : Course) (node : ℕ) (bytes : Option ℕ) (Q : Course → Type 0) → Q c
+pub deliver_by : (s : Session) (c : Course) (node : ℕ) (bytes : Option ℕ) (Q : Course → Type 0) → Q c
     → ((link : Link) → link_of node c.links ≡ Some link → (to : ℕ) → Q (with_desk c node (begun c link to)))
     → ((link : Link) → link_of node c.links ≡ Some link → (d : Desk) (packet : List ℕ) → Q (with_desk c node d) → Q (with_desk c node (came s node d packet)))
     → Q (delivered_at s c node bytes (link_of node c.links))

@@ -3,8 +3,9 @@ use Rattle.std.proofs.Common.{◌≡◌, ◌⊎◌, inl, inr, ℕ, true, List, [
 use Rattle.std.specs.Prelude.{slice_get}
 use Rattle.std.specs.List.{list_any}
 use Rattle.session_model.specs.declared.link_log.GotRow.{GotRow}
-use Rattle.plan_course.specs.Packets.{Response, read_response}
-use Rattle.plan_course.specs.Servants.{Setting}
+use Rattle.rpc_packet.specs.Packets.{read_response}
+use Rattle.rpc_packet.specs.declared.response.Response.{Response}
+use Rattle.session_model.specs.declared.session.Session.{Session}
 use Rattle.plan_course.specs.Courses.{Link, Course, Desk, link_of, with_desk, named_id, is_open_under, is_late, is_used, came, came_as}
 use Rattle.plan_course.specs.Legal.{got_of, got_at}
 use Rattle.plan_course.proofs.Lists.{get_append, get_last, get_snoc, same_or_other, of_cond}
@@ -57,12 +58,12 @@ desk_adds c node link found d e row more =
     (λ j other. desk_there c node j e other ∙ sym (desk_there c node j d other))
 
 -- what holds of a late packet and of one that is used holds of each that comes
-pub came_by : (s : Setting) (node : ℕ) (Q : Desk → Type 0) (d : Desk) (packet : List ℕ) → Q (is_late d packet)
-    → ((r : Response) → read_response s.bodies packet ≡ Some r → list_any (is_open_under (named_id r.id)) d.calls ≡ true → Q (is_used node d packet r))
+pub came_by : (s : Session) (node : ℕ) (Q : Desk → Type 0) (d : Desk) (packet : List ℕ) → Q (is_late d packet)
+    → ((r : Response) → read_response packet ≡ Some r → list_any (is_open_under (named_id r.id)) d.calls ≡ true → Q (is_used node d packet r))
     → Q (came s node d packet)
 unfolding came
-came_by s node Q d packet late used = go (read_response s.bodies packet) refl
+came_by s node Q d packet late used = go (read_response packet) refl
   where
-    go : (o : Option Response) → read_response s.bodies packet ≡ o → Q (came_as node d packet o)
+    go : (o : Option Response) → read_response packet ≡ o → Q (came_as node d packet o)
     go None e = late
     go (Some r) e = of_cond (list_any (is_open_under (named_id r.id)) d.calls) Q (is_used node d packet r) (is_late d packet) (λ any. used r e any) (λ none. late)

@@ -1,4 +1,3 @@
-pub mod Told
 pub mod Lists
 pub mod Links
 pub mod Got
@@ -9,5 +8,14 @@ pub mod Events
 pub mod Runs
 pub mod Sent
 pub mod Openings
+pub mod OneLink
+pub mod SentRows
+pub mod OneNode
+pub mod JudgedCalls
+pub mod IntBodies
+pub mod Replies
+pub mod Exchanges
+pub mod Answered
+pub mod Rests
 pub mod Worked
 pub mod Reports

@@ -6,8 +6,9 @@ use Rattle.std.proofs.lemmas.Bool.{eqb-true}
 use Rattle.session_model.specs.declared.link_log.GotFate.TheVariants.{Used, Late}
 use Rattle.session_model.specs.declared.link_log.GotRow.{GotRow}
 use Rattle.session_model.specs.declared.report.CallId.{CallId}
-use Rattle.plan_course.specs.Packets.{Response, read_response}
-use Rattle.plan_course.specs.Servants.{Setting}
+use Rattle.rpc_packet.specs.Packets.{read_response}
+use Rattle.rpc_packet.specs.declared.response.Response.{Response}
+use Rattle.session_model.specs.declared.session.Session.{Session}
 use Rattle.plan_course.specs.Courses.{Fate, replied, closed, Life, Stage, refused, opened, Noted, Link, Course, Desk, link_of, with_desk, named_id, first_fate, ends_with, has_id, is_open, is_open_under, settled, is_late, is_used, came}
 use Rattle.plan_course.specs.Legal.{got_at, EndsAs, IsNamed}
 use Rattle.plan_course.proofs.Lists.{get_append, get_map, of_cond, any_at}
@@ -97,7 +98,7 @@ late_is_not_used packet bytes id e = go (ap (λ (r : GotRow). r.fate) e)
     go f = cc f
 
 -- a packet comes
-pub desk_named : (s : Setting) (c : Course) (node : ℕ) (link : Link) → link_of node c.links ≡ Some link → (d : Desk) (packet : List ℕ)
+pub desk_named : (s : Session) (c : Course) (node : ℕ) (link : Link) → link_of node c.links ≡ Some link → (d : Desk) (packet : List ℕ)
     → AllNamed (with_desk c node d) → AllNamed (with_desk c node (came s node d packet))
 desk_named s c node link found d packet all = came_by s node (λ e. AllNamed (with_desk c node e)) d packet late used
   where
@@ -113,7 +114,7 @@ desk_named s c node link found d packet all = came_by s node (λ e. AllNamed (wi
         go (inl before) = let n = all j k bytes id before in record { place = n.place; call = n.call; response = n.response; call_is = n.call_is; ends = n.ends }
         go (inr last) = absurd (late_is_not_used packet bytes id last.2)
 
-    used : (r : Response) → read_response s.bodies packet ≡ Some r → list_any (is_open_under (named_id r.id)) d.calls ≡ true → AllNamed (with_desk c node (is_used node d packet r))
+    used : (r : Response) → read_response packet ≡ Some r → list_any (is_open_under (named_id r.id)) d.calls ≡ true → AllNamed (with_desk c node (is_used node d packet r))
     used r reads any j k bytes id e = go (adds.back j k (record { packet = bytes; fate = Used id }) e)
       where
         fate : Fate

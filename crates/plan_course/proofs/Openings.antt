@@ -3,14 +3,15 @@ use Rattle.std.proofs.Common.{◌≡◌, ◌<◌, ◌⊎◌, inl, inr, ℕ, zero
 use Rattle.std.specs.Prelude.{slice_get, fold, nat_le, if◌then◌else◌}
 use Rattle.std.specs.List.{AllByRecursion}
 use Rattle.std.proofs.lemmas.List.{append-nil, map-append}
-use Rattle.session_model.specs.Sessions.{WIDTH, NODE}
-use Rattle.session_model.specs.declared.loaded.CallSpec.{CallSpec}
-use Rattle.session_model.specs.declared.loaded.Event.{Event}
-use Rattle.session_model.specs.declared.loaded.Event.TheVariants.{Call, Serve, Work, Deliver, Close}
-use Rattle.plan_course.specs.Servants.{Setting}
-use Rattle.plan_course.specs.Courses.{Fate, replied, closed, Stage, refused, opened, Life, Noted, Course, start, in_flight, is_opened, is_in_flight, next_id, named_id, settled, ends_with, called, step, after_all}
+use Rattle.session_model.specs.Sessions.{WIDTH, NODE, live_node}
+use Rattle.session_model.specs.declared.session.CallSpec.{CallSpec}
+use Rattle.session_model.specs.declared.session.Event.{Event}
+use Rattle.session_model.specs.declared.session.Event.TheVariants.{Call, Serve, Work, Deliver, Close}
+use Rattle.session_model.specs.declared.report.Refusal.TheVariants as refusal
+use Rattle.session_model.specs.declared.session.Session.{Session}
+use Rattle.plan_course.specs.Courses.{Fate, replied, closed, Stage, refused, opened, Life, Noted, Course, start, in_flight, is_opened, is_in_flight, next_id, named_id, settled, ends_with, refused_call, opened_call, called, step, after_all}
 use Rattle.plan_course.specs.Planned.{collects, ended}
-use Rattle.plan_course.specs.Legal.{IsCallAt, Scripted, scripted_after, scripted, Opening, as_full, as_closed, under, opening_of, opened_of, opening_after, IsAsScripted}
+use Rattle.plan_course.specs.Legal.{IsCallAt, Scripted, scripted_after, scripted, Opening, as_full, as_closed, under, opening_of, pick_of, opened_of, opening_after, IsAsScripted}
 use Rattle.plan_course.proofs.Lists.{some_same, none_some, of_cond, join_more, all_more, all_map, count_same, count_map, count_rises}
 use Rattle.plan_course.proofs.Got.{came_by}
 use Rattle.plan_course.proofs.Events.{called_by, deliver_by}
@@ -19,6 +20,7 @@ use Rattle.plan_course.proofs.Events.{called_by, deliver_by}
 pub record IsAfter (before : List Noted) (text : Scripted) (call : Noted) : Type 0 where
   pub spec : call.spec ≡ text.spec
   pub opening : opening_of call.stage ≡ opening_after before text
+  pub pick : call.pick ≡ pick_of (opening_of call.stage)
 
 abbrev pub AllAfter : List Noted → List Scripted → List Noted → Type 0
 AllAfter before [] [] = Unit {0}
@@ -61,7 +63,7 @@ abbrev changed : (Stage → Stage) → Noted → Noted
 changed change call = record call { stage = change call.stage }
 
 choice_same : (width width' : Bool) (is_closed : Bool) (id id' : ℕ) → width ≡ width' → id ≡ id'
-    → (let o : Opening = if width then as_full else (if is_closed then as_closed else under id NODE) in o) ≡ (if width' then as_full else (if is_closed then as_closed else under id' NODE))
+    → (let o : Opening = if width then as_full else (if is_closed then as_closed 0 else under id NODE) in o) ≡ (if width' then as_full else (if is_closed then as_closed 0 else under id' NODE))
 choice_same width width' is_closed id id' e f = rw (e, f) refl
 
 opening_same : (change : Stage → Stage) → LeavesOpening change → (before : List Noted) (text : Scripted) → opening_after (map (changed change) before) text ≡ opening_after before text
@@ -78,7 +80,11 @@ after_change change leaves before [] [] all = record {}
 after_change change leaves before [] (c ∷ calls) all = absurd all
 after_change change leaves before (t ∷ texts) [] all = absurd all
 after_change change leaves before (t ∷ texts) (c ∷ calls) all = (
-  record { spec = all.0.spec; opening = leaves.opening c.stage ∙ (all.0.opening ∙ sym (opening_same change leaves before t)) },
+  record {
+    spec = all.0.spec;
+    opening = leaves.opening c.stage ∙ (all.0.opening ∙ sym (opening_same change leaves before t));
+    pick = all.0.pick ∙ sym (ap pick_of (leaves.opening c.stage));
+  },
   subst (λ b. AllAfter b texts (map (changed change) calls)) (map-append (changed change) before (c ∷ [])) (after_change change leaves (before ++ c ∷ []) texts calls all.1),
 )
 
@@ -153,8 +159,8 @@ flight_is line calls flying =
 
 -- ---- events
 
-choose : (width is_closed : Bool) (id : ℕ) (o : Opening) → (width ≡ true → o ≡ as_full) → (width ≡ false → is_closed ≡ true → o ≡ as_closed) → (width ≡ false → is_closed ≡ false → o ≡ under id NODE)
-    → o ≡ (if width then as_full else (if is_closed then as_closed else under id NODE))
+choose : (width is_closed : Bool) (id : ℕ) (o : Opening) → (width ≡ true → o ≡ as_full) → (width ≡ false → is_closed ≡ true → o ≡ as_closed 0) → (width ≡ false → is_closed ≡ false → o ≡ under id NODE)
+    → o ≡ (if width then as_full else (if is_closed then as_closed 0 else under id NODE))
 choose true is_closed id o full late sent = full refl
 choose false true id o full late sent = late refl refl
 choose false false id o full late sent = sent refl refl
@@ -162,14 +168,29 @@ choose false false id o full late sent = sent refl refl
 differ : (b : Bool) → b ≡ true → b ≡ false → ⊥
 differ b t f = cc (t, f)
 
-call_opens : (s : Setting) (c : Course) (spec : CallSpec) (texts : List Scripted) → Opens texts c.calls
+call_opens : (s : Session) (c : Course) (spec : CallSpec) (texts : List Scripted) → Opens texts c.calls
     → Opens (texts ++ record { spec = spec; closed = c.closed } ∷ []) (called s c spec).calls × ((called s c spec).closed ≡ c.closed)
 call_opens s c spec texts opens =
-    called_by s c spec (λ (d : Course). Opens (texts ++ record { spec = spec; closed = c.closed } ∷ []) d.calls × (d.closed ≡ c.closed))
-    (λ full. (opens_more texts c.calls _ _ opens (record { spec = refl; opening = choose width c.closed (next_id c.calls) as_full (λ w. refl) (λ w l. absurd (differ width (is full) w)) (λ w l. absurd (differ width (is full) w)) }) refl, refl))
-    (λ room late. (opens_more texts c.calls _ _ opens (record { spec = refl; opening = choose width c.closed (next_id c.calls) as_closed (λ w. absurd (differ width w (is_not room))) (λ w l. refl) (λ w l. absurd (differ c.closed late l)) }) refl, refl))
-    (λ room open_still. (opens_more texts c.calls _ _ opens (record { spec = refl; opening = choose width c.closed (next_id c.calls) (under (next_id c.calls) NODE) (λ w. absurd (differ width w (is_not room))) (λ w l. absurd (differ c.closed l open_still)) (λ w l. refl) }) refl, refl))
+    called_by s c spec (λ (d : Course). Opens (texts ++ text ∷ []) d.calls × (d.closed ≡ c.closed))
+    (λ full. (
+      opens_more texts c.calls text (refused_call spec None refusal.Full) opens
+          (record { spec = refl; opening = choose width c.closed (next_id c.calls) as_full (λ w. refl) (λ w l. absurd (differ width (is full) w)) (λ w l. absurd (differ width (is full) w)); pick = refl }) refl,
+      refl,
+    ))
+    (λ room late. (
+      opens_more texts c.calls text (refused_call spec live_node (refusal.Closed 0)) opens
+          (record { spec = refl; opening = choose width c.closed (next_id c.calls) (as_closed 0) (λ w. absurd (differ width w (is_not room))) (λ w l. refl) (λ w l. absurd (differ c.closed late l)); pick = refl }) refl,
+      refl,
+    ))
+    (λ room open_still. (
+      opens_more texts c.calls text (opened_call s c spec) opens
+          (record { spec = refl; opening = choose width c.closed (next_id c.calls) (under (next_id c.calls) NODE) (λ w. absurd (differ width w (is_not room))) (λ w l. absurd (differ c.closed l open_still)) (λ w l. refl); pick = refl }) refl,
+      refl,
+    ))
   where
+    text : Scripted
+    text = record { spec = spec; closed = c.closed }
+
     width : Bool
     width = nat_le WIDTH (opened_of spec.line c.calls)
 
@@ -182,7 +203,7 @@ call_opens s c spec texts opens =
     is_not : nat_le WIDTH (in_flight spec.line c.calls) ≡ false → width ≡ false
     is_not room = same ∙ room
 
-deliver_opens : (s : Setting) (c : Course) (node : ℕ) (bytes : Option ℕ) (texts : List Scripted) → Opens texts c.calls
+deliver_opens : (s : Session) (c : Course) (node : ℕ) (bytes : Option ℕ) (texts : List Scripted) → Opens texts c.calls
     → Opens texts (step s c (Deliver node bytes)).calls × ((step s c (Deliver node bytes)).closed ≡ c.closed)
 deliver_opens s c node bytes texts opens =
     deliver_by s c node bytes (λ (d : Course). Opens texts d.calls × (d.closed ≡ c.closed)) (opens, refl) (λ link found to. (opens, refl))
@@ -192,7 +213,7 @@ deliver_opens s c node bytes texts opens =
       holds.1,
     ))
 
-pub events_open : (s : Setting) (events : List Event) (c : Course) (texts : List Scripted) → Opens texts c.calls → Opens (texts ++ scripted_after c.closed events) (fold (step s) c events).calls
+pub events_open : (s : Session) (events : List Event) (c : Course) (texts : List Scripted) → Opens texts c.calls → Opens (texts ++ scripted_after c.closed events) (fold (step s) c events).calls
 events_open s [] c texts opens = subst (λ (ts : List Scripted). Opens ts c.calls) (sym (append-nil texts)) opens
 events_open s (Call spec ∷ events) c texts opens =
     let first = call_opens s c spec texts opens in
@@ -209,7 +230,7 @@ events_open s (Deliver node bytes ∷ events) c texts opens =
 events_open s (Close ∷ events) c texts opens =
     events_open s events (step s c Close) texts (opens_change (ends_with closed) (ends_leave closed) (ends_in_flight closed) texts c.calls opens)
 
-pub runs_open : (s : Setting) (events : List Event) → AllAfter [] (scripted events) (ended s events).calls
+pub runs_open : (s : Session) (events : List Event) → AllAfter [] (scripted events) (ended s events).calls
 unfolding ended
 runs_open s events =
     let c : Course = step s (after_all s events) Close in
@@ -218,24 +239,24 @@ runs_open s events =
     (events_open s events start [] (record { all = record {}; flying = record {} })) in
     after_change collects collects_leave [] (scripted events) c.calls opens.all
 
-pub as_scripted : (s : Setting) (events : List Event) (k : ℕ) (call : Noted) → IsCallAt (ended s events) k call
+pub as_scripted : (s : Session) (events : List Event) (k : ℕ) (call : Noted) → IsCallAt (ended s events) k call
     → (text : Scripted) × (slice_get (scripted events) k ≡ Some text) × IsAsScripted (ended s events) k call text
 as_scripted s events k call e =
     let found = after_at [] (scripted events) (ended s events).calls k call (runs_open s events) e in
-    (found.0, found.1, record { spec = found.2.spec; opening = found.2.opening })
+    (found.0, found.1, record { spec = found.2.spec; opening = found.2.opening; pick = found.2.pick })
 
 -- ---- ids
 
 id_is : (before : List Noted) (text : Scripted) (id node : ℕ) → under id node ≡ opening_after before text → id ≡ next_id before
 id_is before text id node =
-    of_cond (nat_le WIDTH (opened_of text.spec.line before)) (λ (o : Opening). under id node ≡ o → id ≡ next_id before) as_full (if text.closed then as_closed else under (next_id before) NODE)
+    of_cond (nat_le WIDTH (opened_of text.spec.line before)) (λ (o : Opening). under id node ≡ o → id ≡ next_id before) as_full (if text.closed then as_closed 0 else under (next_id before) NODE)
     (λ full e. absurd (cc e))
-    (λ room. of_cond text.closed (λ (o : Opening). under id node ≡ o → id ≡ next_id before) as_closed (under (next_id before) NODE)
+    (λ room. of_cond text.closed (λ (o : Opening). under id node ≡ o → id ≡ next_id before) (as_closed 0) (under (next_id before) NODE)
     (λ late e. absurd (cc e))
-    (λ open_still e. ap (λ (o : Opening). elim o [ as_full ↦ 0 | as_closed ↦ 0 | under i n ↦ i ]) e))
+    (λ open_still e. ap (λ (o : Opening). elim o [ as_full ↦ 0 | as_closed word ↦ 0 | under i n ↦ i ]) e))
 
 -- the id of a call that was opened
-pub id_after : (s : Setting) (events : List Event) (k : ℕ) (call : Noted) (life : Life) → IsCallAt (ended s events) k call → call.stage ≡ opened life → life.id ≡ next_id (take k (ended s events).calls)
+pub id_after : (s : Session) (events : List Event) (k : ℕ) (call : Noted) (life : Life) → IsCallAt (ended s events) k call → call.stage ≡ opened life → life.id ≡ next_id (take k (ended s events).calls)
 id_after s events k call life e is_opened_so =
     let found = after_at [] (scripted events) (ended s events).calls k call (runs_open s events) e in
     id_is (take k (ended s events).calls) found.0 life.id life.node (sym (ap opening_of is_opened_so) ∙ found.2.opening)
@@ -244,7 +265,7 @@ earlier_below : (calls : List Noted) (j k : ℕ) (call : Noted) (life : Life) �
 earlier_below calls j k call life e is_opened_so below =
     let rises = count_rises (λ (n : Noted). is_opened n.stage) calls j k call e (ap is_opened is_opened_so) below in omega (arith, rises)
 
-pub ids_differ : (s : Setting) (events : List Event) (j k : ℕ) (call other : Noted) (life next : Life) → IsCallAt (ended s events) j call → IsCallAt (ended s events) k other
+pub ids_differ : (s : Session) (events : List Event) (j k : ℕ) (call other : Noted) (life next : Life) → IsCallAt (ended s events) j call → IsCallAt (ended s events) k other
     → call.stage ≡ opened life → other.stage ≡ opened next → life.id ≡ next.id → j ≡ k
 ids_differ s events j k call other life next e f is_opened_so next_opened same = go
   where

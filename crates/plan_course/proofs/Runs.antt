@@ -3,11 +3,11 @@
 use Rattle.std.proofs.Common.{◌≡◌, ℕ, zero, suc, true, List, Option, Some, None, refl, sym, ap, ◌∙◌, subst, arith}
 use Rattle.std.specs.Prelude.{slice_get}
 use Rattle.session_model.specs.Sessions.{NODE}
-use Rattle.session_model.specs.declared.loaded.CallSpec.{CallSpec}
-use Rattle.session_model.specs.declared.loaded.Event.{Event}
-use Rattle.session_model.specs.declared.loaded.Event.TheVariants.{Call, Serve, Work, Deliver, Close}
+use Rattle.session_model.specs.declared.session.CallSpec.{CallSpec}
+use Rattle.session_model.specs.declared.session.Event.{Event}
+use Rattle.session_model.specs.declared.session.Event.TheVariants.{Call, Serve, Work, Deliver, Close}
 use Rattle.tars_frames.specs.Cutting.{packets_of}
-use Rattle.plan_course.specs.Servants.{Setting}
+use Rattle.session_model.specs.declared.session.Session.{Session}
 use Rattle.plan_course.specs.Courses.{Stage, refused, opened, Link, Course, link_of, unused, start, sends, sent_row, next_id, serves, works, delivers, delivered_at, ends_with, closed, is_sent, step, after_all, with_desk}
 use Rattle.plan_course.specs.Planned.{collects, collected_all, ended}
 use Rattle.plan_course.specs.Legal.{got_at, IsRead, HasCause, IsNamed}
@@ -20,19 +20,19 @@ use Rattle.plan_course.proofs.Events.{link_got, serves_got, works_got, called_by
 
 -- ---- what was read
 
-abbrev pub AllRead : Setting → Course → Type 0
+abbrev pub AllRead : Session → Course → Type 0
 AllRead s c = Each (λ node link. IsRead s link) c.links
 
-unused_read : (s : Setting) → IsRead s unused
+unused_read : (s : Session) → IsRead s unused
 unfolding packets_of
 unused_read s = record { served_within = omega arith; requests = refl; taken_within = omega arith; answers = refl; delivered_within = omega arith; packets = refl }
 
-start_read : (s : Setting) → AllRead s start
+start_read : (s : Session) → AllRead s start
 start_read s zero link e = absurd (none_some link e)
 start_read s (suc zero) link e = subst (λ (l : Link). IsRead s l) (some_same unused link e) (unused_read s)
 start_read s (suc (suc j)) link e = absurd (none_some link e)
 
-delivered_read : (s : Setting) (c : Course) (node : ℕ) (bytes : Option ℕ) → AllRead s c → AllRead s (delivered_at s c node bytes (link_of node c.links))
+delivered_read : (s : Session) (c : Course) (node : ℕ) (bytes : Option ℕ) → AllRead s c → AllRead s (delivered_at s c node bytes (link_of node c.links))
 delivered_read s c node bytes all = go (link_of node c.links) refl
   where
     go : (o : Option Link) → link_of node c.links ≡ o → AllRead s (delivered_at s c node bytes o)
@@ -41,7 +41,7 @@ delivered_read s c node bytes all = go (link_of node c.links) refl
         each_kept (λ j l. IsRead s l) node (λ l. (delivers s node bytes c.calls link).link) c.links all
         (λ l read. delivers_read s node bytes c.calls link (all node link e))
 
-step_read : (s : Setting) (c : Course) (event : Event) → AllRead s c → AllRead s (step s c event)
+step_read : (s : Session) (c : Course) (event : Event) → AllRead s c → AllRead s (step s c event)
 step_read s c (Call spec) all =
     called_by s c spec (λ (d : Course). AllRead s d) (λ full. all) (λ room late. all)
     (λ room open_still. each_kept (λ j l. IsRead s l) NODE (sends (sent_row s spec (next_id c.calls))) c.links all (sends_read s (sent_row s spec (next_id c.calls))))
@@ -50,7 +50,7 @@ step_read s c (Work node) all = each_kept (λ j l. IsRead s l) node (works s) c.
 step_read s c (Deliver node bytes) all = delivered_read s c node bytes all
 step_read s c Close all = all
 
-pub runs_read : (s : Setting) (events : List Event) → AllRead s (ended s events)
+pub runs_read : (s : Session) (events : List Event) → AllRead s (ended s events)
 unfolding ended
 runs_read s events = fold_keeps (λ (c : Course). AllRead s c) (step s) (λ c event all. step_read s c event all) events start (start_read s)
 
@@ -59,10 +59,10 @@ runs_read s events = fold_keeps (λ (c : Course). AllRead s c) (step s) (λ c ev
 same_got : (old new : Course) → ((j : ℕ) → got_at new j ≡ got_at old j) → (old.closed ≡ true → new.closed ≡ true) → Grows old new
 same_got old new got stays = record { got = λ j k r e. ap (λ g. slice_get g k) (got j) ∙ e; stays_closed = stays }
 
-sent_got : (s : Setting) (c : Course) (spec : CallSpec) (j : ℕ) → got_at (is_sent s c spec) j ≡ got_at c j
+sent_got : (s : Session) (c : Course) (spec : CallSpec) (j : ℕ) → got_at (is_sent s c spec) j ≡ got_at c j
 sent_got s c spec j = link_got NODE j (sends (sent_row s spec (next_id c.calls))) c.links (λ link. refl)
 
-step_caused : (s : Setting) (c : Course) (event : Event) → AllCaused s c → AllCaused s (step s c event)
+step_caused : (s : Session) (c : Course) (event : Event) → AllCaused s c → AllCaused s (step s c event)
 step_caused s c (Call spec) all =
     called_by s c spec (λ (d : Course). AllCaused s d)
     (λ full. ends_more s c _ _ (same_got c _ (λ j. refl) (λ e. e)) refl (record {}) all)
@@ -79,17 +79,17 @@ step_caused s c (Deliver node bytes) all =
 step_caused s c Close all =
     ends_change s c (step s c Close) (ends_with closed) (same_got c (step s c Close) (λ j. refl) (λ e. refl)) refl (close_cause s (step s c Close) refl) all
 
-start_caused : (s : Setting) → AllCaused s start
+start_caused : (s : Session) → AllCaused s start
 start_caused s k call e = absurd (none_some call e)
 
-collected_cause : (s : Setting) (c : Course) (stage : Stage) → HasCause s c stage → HasCause s c (collects stage)
+collected_cause : (s : Session) (c : Course) (stage : Stage) → HasCause s c stage → HasCause s c (collects stage)
 collected_cause s c (refused why) cause = record {}
 collected_cause s c (opened life) cause = cause
 
-pub after_caused : (s : Setting) (events : List Event) → AllCaused s (after_all s events)
+pub after_caused : (s : Session) (events : List Event) → AllCaused s (after_all s events)
 after_caused s events = fold_keeps (λ (c : Course). AllCaused s c) (step s) (λ c event all. step_caused s c event all) events start (start_caused s)
 
-pub runs_caused : (s : Setting) (events : List Event) → AllCaused s (ended s events)
+pub runs_caused : (s : Session) (events : List Event) → AllCaused s (ended s events)
 unfolding ended
 runs_caused s events =
     let c = step s (after_all s events) Close in
@@ -105,7 +105,7 @@ named_as_before : (old new : Course) → new.calls ≡ old.calls → (node packe
 named_as_before old new calls node packet id named =
     record { place = named.place; call = named.call; response = named.response; call_is = ap (λ xs. slice_get xs named.place) calls ∙ named.call_is; ends = named.ends }
 
-step_named : (s : Setting) (c : Course) (event : Event) → AllNamed c → AllNamed (step s c event)
+step_named : (s : Session) (c : Course) (event : Event) → AllNamed c → AllNamed (step s c event)
 step_named s c (Call spec) all =
     called_by s c spec AllNamed
     (λ full. named_on c _ (λ j. refl) (named_more c _ _ refl) all)
@@ -136,7 +136,7 @@ collected_leaves stage id fate ends =
       fate_is = ends.fate_is;
     }
 
-pub runs_named : (s : Setting) (events : List Event) → AllNamed (ended s events)
+pub runs_named : (s : Session) (events : List Event) → AllNamed (ended s events)
 unfolding ended
 runs_named s events =
     let c = step s (after_all s events) Close in

@@ -6,13 +6,15 @@ use Rattle.std.proofs.lemmas.List.{append-nil}
 use Rattle.std.proofs.lemmas.List.Elements.{filter_map-append}
 use Rattle.session_model.specs.Sessions.{NODE}
 use Rattle.session_model.specs.declared.link_log.SentRow.{SentRow}
-use Rattle.session_model.specs.declared.loaded.CallSpec.{CallSpec}
-use Rattle.session_model.specs.declared.loaded.Event.{Event}
-use Rattle.session_model.specs.declared.loaded.Event.TheVariants.{Call, Serve, Work, Deliver, Close}
+use Rattle.session_model.specs.declared.session.CallSpec.{CallSpec}
+use Rattle.session_model.specs.declared.session.Event.{Event}
+use Rattle.session_model.specs.declared.session.Event.TheVariants.{Call, Serve, Work, Deliver, Close}
 use Rattle.session_model.specs.declared.report.PickNote.{PickNote}
 use Rattle.session_model.specs.declared.report.Refusal.{Refusal}
-use Rattle.plan_course.specs.Packets.{Request, Response, read_response}
-use Rattle.plan_course.specs.Servants.{Setting}
+use Rattle.rpc_packet.specs.Packets.{read_response}
+use Rattle.rpc_packet.specs.declared.request.Request.{Request}
+use Rattle.rpc_packet.specs.declared.response.Response.{Response}
+use Rattle.session_model.specs.declared.session.Session.{Session}
 use Rattle.plan_course.specs.Courses.{Fate, replied, closed, Life, Stage, refused, opened, Noted, Link, Course, Desk, link_of, at_node, unused, start, named_id, sends, sent_row, next_id, not_sent, refused_call, opened_call, is_sent, settled, ends_with, serves, answers_next, works, came, is_late, is_used, with_desk, delivered_at, step, after_all}
 use Rattle.plan_course.specs.Planned.{collects, ended}
 use Rattle.plan_course.specs.Legal.{sent_of_stage, sent_of}
@@ -22,48 +24,48 @@ use Rattle.plan_course.proofs.Got.{came_by}
 use Rattle.plan_course.proofs.Events.{called_by, deliver_by}
 
 -- the frames that these calls have at a node
-abbrev pub IsSentAt : Setting → List Noted → ℕ → Link → Type 0
+abbrev pub IsSentAt : Session → List Noted → ℕ → Link → Type 0
 IsSentAt s calls node link = link.sent ≡ filter_map (sent_of s node) calls
 
-abbrev pub AllSent : Setting → Course → Type 0
+abbrev pub AllSent : Session → Course → Type 0
 AllSent s c = Each (IsSentAt s c.calls) c.links
 
 -- a change of calls that leaves what was sent
-abbrev LeavesSent : Setting → (Stage → Stage) → Type 0
+abbrev LeavesSent : Session → (Stage → Stage) → Type 0
 LeavesSent s change = (node : ℕ) (spec : CallSpec) (stage : Stage) → sent_of_stage s node spec (change stage) ≡ sent_of_stage s node spec stage
 
-with_fate : (s : Setting) (fate : Fate) → LeavesSent s (ends_with fate)
+with_fate : (s : Session) (fate : Fate) → LeavesSent s (ends_with fate)
 with_fate s fate node spec (refused why) = refl
 with_fate s fate node spec (opened life) = refl
 
-settled_sent : (s : Setting) (id : ℕ) (fate : Fate) → LeavesSent s (settled id fate)
+settled_sent : (s : Session) (id : ℕ) (fate : Fate) → LeavesSent s (settled id fate)
 settled_sent s id fate node spec (refused why) = refl
 settled_sent s id fate node spec (opened life) =
     of_cond (eqb life.id id) (λ t. sent_of_stage s node spec t ≡ sent_of_stage s node spec (opened life)) (ends_with fate (opened life)) (opened life) (λ same. refl) (λ other. refl)
 
-collected_sent : (s : Setting) → LeavesSent s collects
+collected_sent : (s : Session) → LeavesSent s collects
 collected_sent s node spec (refused why) = refl
 collected_sent s node spec (opened life) = refl
 
-changed_sent : (s : Setting) (change : Stage → Stage) → LeavesSent s change → (calls : List Noted) (node : ℕ) (link : Link)
+changed_sent : (s : Session) (change : Stage → Stage) → LeavesSent s change → (calls : List Noted) (node : ℕ) (link : Link)
     → IsSentAt s calls node link → IsSentAt s (map (λ (call : Noted). record call { stage = change call.stage }) calls) node link
 changed_sent s change leaves calls node link sent =
     sent ∙ sym (filter_map_same (sent_of s node) (λ (call : Noted). record call { stage = change call.stage }) (sent_of s node) (λ call. leaves node call.spec call.stage) calls)
 
 -- ---- events
 
-refused_sent : (s : Setting) (calls : List Noted) (spec : CallSpec) (pick : Option PickNote) (why : Refusal) (node : ℕ) (link : Link)
+refused_sent : (s : Session) (calls : List Noted) (spec : CallSpec) (pick : Option PickNote) (why : Refusal) (node : ℕ) (link : Link)
     → IsSentAt s calls node link → IsSentAt s (calls ++ refused_call spec pick why ∷ []) node link
 refused_sent s calls spec pick why node link sent =
     sent ∙ sym (filter_map-append (sent_of s node) calls (refused_call spec pick why ∷ []) ∙ append-nil (filter_map (sent_of s node) calls))
 
 -- a call that was opened has its frame at its node, and at no other
-opened_here : (s : Setting) (c : Course) (spec : CallSpec) (link : Link) → IsSentAt s c.calls NODE link
+opened_here : (s : Session) (c : Course) (spec : CallSpec) (link : Link) → IsSentAt s c.calls NODE link
     → IsSentAt s (c.calls ++ opened_call s c spec ∷ []) NODE (sends (sent_row s spec (next_id c.calls)) link)
 opened_here s c spec link sent =
     ap (λ rows. rows ++ sent_row s spec (next_id c.calls) ∷ []) sent ∙ sym (filter_map-append (sent_of s NODE) c.calls (opened_call s c spec ∷ []))
 
-opened_there : (s : Setting) (c : Course) (spec : CallSpec) (node : ℕ) (link : Link) → (node ≡ NODE → ⊥) → IsSentAt s c.calls node link
+opened_there : (s : Session) (c : Course) (spec : CallSpec) (node : ℕ) (link : Link) → (node ≡ NODE → ⊥) → IsSentAt s c.calls node link
     → IsSentAt s (c.calls ++ opened_call s c spec ∷ []) node link
 opened_there s c spec node link other sent =
     sent ∙ sym (filter_map-append (sent_of s node) c.calls (opened_call s c spec ∷ []) ∙ (ap (λ rows. filter_map (sent_of s node) c.calls ++ rows) none ∙ append-nil (filter_map (sent_of s node) c.calls)))
@@ -77,11 +79,11 @@ opened_there s c spec node link other sent =
         (of_cond (eqb NODE node) (λ (o : Option SentRow). o ≡ None) (Some (sent_row s spec (next_id c.calls))) None
         (λ same. absurd (other (sym (eqb-true NODE node same)))) (λ different. refl))
 
-serves_sent : (s : Setting) (bytes : Option ℕ) (calls : List Noted) (node : ℕ) (link : Link) → IsSentAt s calls node link → IsSentAt s calls node (serves s bytes link)
+serves_sent : (s : Session) (bytes : Option ℕ) (calls : List Noted) (node : ℕ) (link : Link) → IsSentAt s calls node link → IsSentAt s calls node (serves s bytes link)
 unfolding serves
 serves_sent s bytes calls node link sent = sent
 
-works_sent : (s : Setting) (calls : List Noted) (node : ℕ) (link : Link) → IsSentAt s calls node link → IsSentAt s calls node (works s link)
+works_sent : (s : Session) (calls : List Noted) (node : ℕ) (link : Link) → IsSentAt s calls node link → IsSentAt s calls node (works s link)
 unfolding works
 works_sent s calls node link sent = go (slice_get link.accepted link.taken)
   where
@@ -89,14 +91,14 @@ works_sent s calls node link sent = go (slice_get link.accepted link.taken)
     go None = sent
     go (Some r) = sent
 
-desk_sent : (s : Setting) (c : Course) (node : ℕ) (link : Link) → link_of node c.links ≡ Some link → (d : Desk) (packet : List ℕ)
+desk_sent : (s : Session) (c : Course) (node : ℕ) (link : Link) → link_of node c.links ≡ Some link → (d : Desk) (packet : List ℕ)
     → AllSent s (with_desk c node d) → AllSent s (with_desk c node (came s node d packet))
 desk_sent s c node link found d packet all = came_by s node (λ e. AllSent s (with_desk c node e)) d packet late used
   where
     late : AllSent s (with_desk c node (is_late d packet))
     late = each_put (IsSentAt s d.calls) (IsSentAt s d.calls) node link d.link (is_late d packet).link c.links found all (λ j l sent. sent) (λ sent. sent)
 
-    used : (r : Response) → read_response s.bodies packet ≡ Some r → Rattle.std.specs.List.list_any (Rattle.plan_course.specs.Courses.is_open_under (named_id r.id)) d.calls ≡ true
+    used : (r : Response) → read_response packet ≡ Some r → Rattle.std.specs.List.list_any (Rattle.plan_course.specs.Courses.is_open_under (named_id r.id)) d.calls ≡ true
         → AllSent s (with_desk c node (is_used node d packet r))
     used r reads any =
         let change : Stage → Stage = settled (named_id r.id) (replied node (suc (Rattle.std.proofs.Common.length d.link.got)) r) in
@@ -104,7 +106,7 @@ desk_sent s c node link found d packet all = came_by s node (λ e. AllSent s (wi
         each_put (IsSentAt s d.calls) (IsSentAt s (is_used node d packet r).calls) node link d.link (is_used node d packet r).link c.links found all
         (λ j l sent. changed_sent s change leaves d.calls j l sent) (λ sent. changed_sent s change leaves d.calls node d.link sent)
 
-step_sent : (s : Setting) (c : Course) (event : Event) → AllSent s c → AllSent s (step s c event)
+step_sent : (s : Session) (c : Course) (event : Event) → AllSent s c → AllSent s (step s c event)
 step_sent s c (Call spec) all =
     called_by s c spec (λ (d : Course). AllSent s d)
     (λ full j link e. refused_sent s c.calls spec _ _ j link (all j link e))
@@ -119,12 +121,12 @@ step_sent s c (Deliver node bytes) all =
     (λ link found d packet holds. desk_sent s c node link found d packet holds)
 step_sent s c Close all = λ j link e. changed_sent s (ends_with closed) (with_fate s closed) c.calls j link (all j link e)
 
-start_sent : (s : Setting) → AllSent s start
+start_sent : (s : Session) → AllSent s start
 start_sent s zero link e = absurd (none_some link e)
 start_sent s (suc zero) link e = subst (λ (l : Link). IsSentAt s [] 1 l) (some_same unused link e) refl
 start_sent s (suc (suc j)) link e = absurd (none_some link e)
 
-pub runs_sent : (s : Setting) (events : List Event) → AllSent s (ended s events)
+pub runs_sent : (s : Session) (events : List Event) → AllSent s (ended s events)
 unfolding ended
 runs_sent s events =
     let c : Course = step s (after_all s events) Close in

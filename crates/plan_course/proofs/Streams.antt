@@ -10,8 +10,10 @@ use Rattle.session_model.specs.declared.link_log.SentRow.{SentRow}
 use Rattle.tars_frames.specs.Streams.{LONGEST, joined}
 use Rattle.tars_frames.specs.Cutting.{packets_of, rest_of, is_refused}
 use Rattle.tars_frames.proofs.CallerLemmas.{joined-append, carried_on}
-use Rattle.plan_course.specs.Packets.{Request, read_request}
-use Rattle.plan_course.specs.Servants.{Setting, answer_frame}
+use Rattle.rpc_packet.specs.Packets.{read_request}
+use Rattle.rpc_packet.specs.declared.request.Request.{Request}
+use Rattle.plan_course.specs.Servants.{answer_frame}
+use Rattle.session_model.specs.declared.session.Session.{Session}
 use Rattle.plan_course.specs.Courses.{Noted, Link, Desk, count_of, read_to, packets_to, news, requests_stream, answers_stream, sends, serves, answers_next, works, named_id, came, delivers}
 use Rattle.plan_course.specs.Legal.{IsRead}
 use Rattle.plan_course.proofs.Lists.{none_some, some_same, of_cond}
@@ -73,11 +75,11 @@ longer at stream more within = let long = length-append stream more in omega (ar
 requests_longer : (row : SentRow) (link : Link) → requests_stream (sends row link) ≡ requests_stream link ++ (row.frame ++ [])
 requests_longer row link = ap joined (map-append (λ (r : SentRow). r.frame) link.sent (row ∷ [])) ∙ joined-append (map (λ (r : SentRow). r.frame) link.sent) (row.frame ∷ [])
 
-pub sends_read : (s : Setting) (row : SentRow) (link : Link) → IsRead s link → IsRead s (sends row link)
+pub sends_read : (s : Session) (row : SentRow) (link : Link) → IsRead s link → IsRead s (sends row link)
 sends_read s row link read =
     record {
       served_within = subst (λ stream. link.served ≤ length stream) (sym (requests_longer row link)) (longer link.served (requests_stream link) (row.frame ++ []) read.served_within);
-      requests = read.requests ∙ ap (λ packets. filter_map (read_request s.bodies) packets)
+      requests = read.requests ∙ ap (λ packets. filter_map read_request packets)
           (sym (ap (λ stream. packets_to link.served stream) (requests_longer row link) ∙ packets_stay link.served (requests_stream link) (row.frame ++ []) read.served_within));
       taken_within = read.taken_within;
       answers = read.answers;
@@ -91,16 +93,16 @@ take_within n xs ys within = take-append-le n xs ys within
 within_more : {X : Type 0} (n : ℕ) (xs ys : List X) → n ≤ length xs → n ≤ length (xs ++ ys)
 within_more n xs ys within = let long = length-append xs ys in omega (arith, long, within)
 
-pub serves_read : (s : Setting) (bytes : Option ℕ) (link : Link) → IsRead s link → IsRead s (serves s bytes link)
+pub serves_read : (s : Session) (bytes : Option ℕ) (link : Link) → IsRead s link → IsRead s (serves s bytes link)
 unfolding serves
 serves_read s bytes link read =
     record {
       served_within = goes.within;
-      requests = ap (λ before. before ++ filter_map (read_request s.bodies) fresh) read.requests
-          ∙ (sym (filter_map-append (read_request s.bodies) (packets_to link.served (requests_stream link)) fresh)
-          ∙ ap (λ packets. filter_map (read_request s.bodies) packets) (sym (news_follow link.served to (requests_stream link) goes.further)));
-      taken_within = within_more link.taken link.accepted (filter_map (read_request s.bodies) fresh) read.taken_within;
-      answers = read.answers ∙ ap (λ taken. map (answer_frame s) taken) (sym (take_within link.taken link.accepted (filter_map (read_request s.bodies) fresh) read.taken_within));
+      requests = ap (λ before. before ++ filter_map read_request fresh) read.requests
+          ∙ (sym (filter_map-append read_request (packets_to link.served (requests_stream link)) fresh)
+          ∙ ap (λ packets. filter_map read_request packets) (sym (news_follow link.served to (requests_stream link) goes.further)));
+      taken_within = within_more link.taken link.accepted (filter_map read_request fresh) read.taken_within;
+      answers = read.answers ∙ ap (λ taken. map (answer_frame s) taken) (sym (take_within link.taken link.accepted (filter_map read_request fresh) read.taken_within));
       delivered_within = read.delivered_within;
       packets = read.packets;
     }
@@ -119,7 +121,7 @@ take_next [] k x e = absurd (none_some x e)
 take_next (y ∷ xs) zero x e = (ap (λ z. z ∷ []) (some_same y x e), omega arith)
 take_next (y ∷ xs) (suc k) x e = let found = take_next xs k x e in (ap (λ zs. y ∷ zs) found.0, omega (arith, found.1))
 
-pub works_read : (s : Setting) (link : Link) → IsRead s link → IsRead s (works s link)
+pub works_read : (s : Session) (link : Link) → IsRead s link → IsRead s (works s link)
 unfolding works
 works_read s link read = go (slice_get link.accepted link.taken) refl
   where
@@ -151,7 +153,7 @@ pub record Gets (old new : Link) (packets : List (List ℕ)) : Type 0 where
   pub rest_is : new ≡ record old { got = new.got }
   pub got_is : packets_got new.got ≡ packets_got old.got ++ packets
 
-pub came_gets : (s : Setting) (node : ℕ) (d : Desk) (packet : List ℕ) → Gets d.link (came s node d packet).link (packet ∷ [])
+pub came_gets : (s : Session) (node : ℕ) (d : Desk) (packet : List ℕ) → Gets d.link (came s node d packet).link (packet ∷ [])
 came_gets s node d packet =
     came_by s node (λ e. Gets d.link e.link (packet ∷ [])) d packet
     (record { rest_is = refl; got_is = map-append (λ (row : GotRow). row.packet) d.link.got (record { packet = packet; fate = Late 0 } ∷ []) })
@@ -171,13 +173,13 @@ gets_more a b c packet packets first later =
       got_is = later.got_is ∙ (ap (λ xs. xs ++ packets) first.got_is ∙ join_more (packets_got a.got) packet packets);
     }
 
-pub all_get : (s : Setting) (node : ℕ) (packets : List (List ℕ)) (d : Desk) → Gets d.link (fold (came s node) d packets).link packets
+pub all_get : (s : Session) (node : ℕ) (packets : List (List ℕ)) (d : Desk) → Gets d.link (fold (came s node) d packets).link packets
 all_get s node [] d = gets_none d.link
 all_get s node (packet ∷ packets) d =
     gets_more d.link (came s node d packet).link (fold (came s node) (came s node d packet) packets).link packet packets
     (came_gets s node d packet) (all_get s node packets (came s node d packet))
 
-pub delivers_read : (s : Setting) (node : ℕ) (bytes : Option ℕ) (calls : List Noted) (link : Link) → IsRead s link → IsRead s (delivers s node bytes calls link).link
+pub delivers_read : (s : Session) (node : ℕ) (bytes : Option ℕ) (calls : List Noted) (link : Link) → IsRead s link → IsRead s (delivers s node bytes calls link).link
 unfolding delivers
 delivers_read s node bytes calls link read =
     let gets = all_get s node fresh begin in

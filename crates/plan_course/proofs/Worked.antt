@@ -3,13 +3,13 @@ use Rattle.std.proofs.Common.{◌≡◌, ◌+◌, ℕ, pos, true, false, List, [
 use Rattle.std.specs.Prelude.{slice_get}
 use Rattle.session_model.specs.Sessions.{live_node, node_of}
 use Rattle.session_model.specs.declared.link_log.GotFate.TheVariants.{Used, Late}
-use Rattle.session_model.specs.declared.loaded.CallSpec.{CallSpec}
-use Rattle.session_model.specs.declared.loaded.Event.TheVariants.{Call, Close}
+use Rattle.session_model.specs.declared.session.CallSpec.{CallSpec}
+use Rattle.session_model.specs.declared.session.Event.TheVariants.{Call, Close}
 use Rattle.session_model.specs.declared.report.Refusal.TheVariants as refusal
 use Rattle.tars_frames.specs.Streams.{first_length}
 use Rattle.tars_frames.specs.Cutting.{packets_of, has_packet, is_length}
-use Rattle.plan_course.specs.Packets.{read_response}
-use Rattle.plan_course.specs.Servants.{Setting}
+use Rattle.rpc_packet.specs.Packets.{read_response}
+use Rattle.session_model.specs.declared.session.Session.{Session}
 use Rattle.plan_course.specs.Courses.{closed, Life, opened, Desk, unused, called, came, refused_call, after_all}
 
 -- two packets in a stream, and two bytes of a third
@@ -20,27 +20,27 @@ two_packets = refl
 abbrev a_call : ℕ → CallSpec
 a_call n = record { call = n; line = 1; func = 0; two_way = true; begin = false; key = 0; args = [] }
 
-abbrev a_life : Setting → Life
-a_life s = record { id = 1; node = 1; deadline = 0 + (node_of s.loaded).timeout; fate = None; collected = false }
+abbrev a_life : Session → Life
+a_life s = record { id = 1; node = 1; deadline = 0 + (node_of s).timeout; fate = None; collected = false }
 
 -- a close ends the call before it and refuses the call after it
-pub a_close : (s : Setting) → (after_all s (Call (a_call 1) ∷ Close ∷ Call (a_call 2) ∷ [])).calls
+pub a_close : (s : Session) → (after_all s (Call (a_call 1) ∷ Close ∷ Call (a_call 2) ∷ [])).calls
     ≡ record { spec = a_call 1; pick = live_node; stage = opened (record (a_life s) { fate = Some closed }) }
     ∷ refused_call (a_call 2) live_node (refusal.Closed 0) ∷ []
 unfolding called
 a_close s = refl
 
 -- the ninth call of a line is refused as full
-pub a_ninth : (s : Setting) → slice_get (after_all s (Call (a_call 1) ∷ Call (a_call 2) ∷ Call (a_call 3) ∷ Call (a_call 4) ∷ Call (a_call 5) ∷ Call (a_call 6)
+pub a_ninth : (s : Session) → slice_get (after_all s (Call (a_call 1) ∷ Call (a_call 2) ∷ Call (a_call 3) ∷ Call (a_call 4) ∷ Call (a_call 5) ∷ Call (a_call 6)
     ∷ Call (a_call 7) ∷ Call (a_call 8) ∷ Call (a_call 9) ∷ [])).calls 8 ≡ Some (refused_call (a_call 9) None refusal.Full)
 unfolding called
 a_ninth s = refl
 
 -- of two packets for one call the first is used, and the second is late
-abbrev a_desk : Setting → Desk
+abbrev a_desk : Session → Desk
 a_desk s = record { calls = record { spec = a_call 1; pick = live_node; stage = opened (a_life s) } ∷ []; link = unused }
 
-pub twice : (s : Setting) (packet body : List ℕ) → read_response s.bodies packet ≡ Some (record { id = pos 1; ret = pos 0; body = body })
+pub twice : (s : Session) (packet body : List ℕ) → read_response packet ≡ Some (record { id = pos 1; ret = pos 0; body = body })
     → (came s 1 (came s 1 (a_desk s) packet) packet).link.got
     ≡ record { packet = packet; fate = Used (record { 0 = 1 }) } ∷ record { packet = packet; fate = Late 0 } ∷ []
 unfolding came

@@ -2,23 +2,25 @@
 -- were read say, whoever wrote them.
 use Rattle.std.specs.Prelude.{ℕ, zero, suc, ◌+◌, min, ℤ, pos, negsuc, Bool, true, false, not, ◌&&◌, ◌==◌, nat_le, if◌then◌else◌, Option, Some, None, is_none, List, [], ◌∷◌, ◌++◌, length, take, drop, map, fold, count_by, filter_map, slice_get}
 use Rattle.std.specs.List.{list_any}
-use Rattle.tars_model.specs.Members.{arguments_of}
-use Rattle.tars_codec.specs.Written.{written}
 use Rattle.tars_frames.specs.Streams.{LONGEST, joined}
 use Rattle.tars_frames.specs.Cutting.{packets_of, is_refused}
-use Rattle.session_model.specs.Sessions.{WIDTH, NODE, live_node, func_of, node_of}
+use Rattle.session_model.specs.Judged.{request_of}
+use Rattle.session_model.specs.Sessions.{WIDTH, NODE, live_node, node_of}
 use Rattle.session_model.specs.declared.link_log.GotFate.{GotFate}
 use Rattle.session_model.specs.declared.link_log.GotFate.TheVariants.{Used, Late}
 use Rattle.session_model.specs.declared.link_log.GotRow.{GotRow}
 use Rattle.session_model.specs.declared.link_log.SentRow.{SentRow}
-use Rattle.session_model.specs.declared.loaded.CallSpec.{CallSpec}
-use Rattle.session_model.specs.declared.loaded.Event.{Event}
-use Rattle.session_model.specs.declared.loaded.Event.TheVariants.{Call, Serve, Work, Deliver, Close}
+use Rattle.session_model.specs.declared.session.CallSpec.{CallSpec}
+use Rattle.session_model.specs.declared.session.Event.{Event}
+use Rattle.session_model.specs.declared.session.Event.TheVariants.{Call, Serve, Work, Deliver, Close}
 use Rattle.session_model.specs.declared.report.PickNote.{PickNote}
 use Rattle.session_model.specs.declared.report.Refusal.{Refusal}
 use Rattle.session_model.specs.declared.report.Refusal.TheVariants as refusal
-use Rattle.plan_course.specs.Packets.{Request, Response, request_frame, read_request, read_response}
-use Rattle.plan_course.specs.Servants.{Setting, answer_frame}
+use Rattle.rpc_packet.specs.Packets.{request_frame, read_request, read_response}
+use Rattle.rpc_packet.specs.declared.request.Request.{Request}
+use Rattle.rpc_packet.specs.declared.response.Response.{Response}
+use Rattle.plan_course.specs.Servants.{answer_frame}
+use Rattle.session_model.specs.declared.session.Session.{Session}
 
 -- What has happened.
 
@@ -134,27 +136,15 @@ next_id calls = suc (count_by (λ (call : Noted). is_opened call.stage) calls)
 abbrev pub refused_call : CallSpec → Option PickNote → Refusal → Noted
 refused_call spec pick why = record { spec = spec; pick = pick; stage = refused why }
 
-abbrev pub opened_call : Setting → Course → CallSpec → Noted
+abbrev pub opened_call : Session → Course → CallSpec → Noted
 opened_call s c spec =
     record {
       spec = spec;
       pick = live_node;
-      stage = opened (record { id = next_id c.calls; node = NODE; deadline = c.moment + (node_of s.loaded).timeout; fate = None; collected = false });
+      stage = opened (record { id = next_id c.calls; node = NODE; deadline = c.moment + (node_of s).timeout; fate = None; collected = false });
     }
 
--- the request of a call under an id, to the one object
-abbrev pub request_of : Setting → CallSpec → ℕ → Request
-request_of s spec id =
-    record {
-      version = pos 1;
-      id = pos id;
-      servant = s.loaded.object.id;
-      func = (func_of s.loaded spec.func).name;
-      body = written s.loaded.client (arguments_of (func_of s.loaded spec.func)) spec.args;
-      timeout = pos (node_of s.loaded).timeout;
-    }
-
-abbrev pub sent_row : Setting → CallSpec → ℕ → SentRow
+abbrev pub sent_row : Session → CallSpec → ℕ → SentRow
 sent_row s spec id = record { call = spec.call; frame = request_frame (request_of s spec id) }
 
 abbrev pub sends : SentRow → Link → Link
@@ -163,7 +153,7 @@ sends row link = record link { sent = link.sent ++ row ∷ [] }
 abbrev pub not_sent : Course → Noted → Course
 not_sent c call = record c { calls = c.calls ++ call ∷ [] }
 
-abbrev pub is_sent : Setting → Course → CallSpec → Course
+abbrev pub is_sent : Session → Course → CallSpec → Course
 is_sent s c spec =
     record c {
       calls = c.calls ++ opened_call s c spec ∷ [];
@@ -171,7 +161,7 @@ is_sent s c spec =
     }
 
 -- full where so many calls of the line are in flight, else a node is picked; refused where the session was closed
-unfoldable pub called : Setting → Course → CallSpec → Course
+unfoldable pub called : Session → Course → CallSpec → Course
 called s c spec =
     if nat_le WIDTH (in_flight spec.line c.calls) then not_sent c (refused_call spec None refusal.Full)
     else (if c.closed then not_sent c (refused_call spec live_node (refusal.Closed 0)) else is_sent s c spec)
@@ -179,19 +169,19 @@ called s c spec =
 -- A node.
 
 -- it reads, and accepts each request that gets whole
-unfoldable pub serves : Setting → Option ℕ → Link → Link
+unfoldable pub serves : Session → Option ℕ → Link → Link
 serves s bytes link =
     record link {
       served = read_to link.served bytes (requests_stream link);
-      accepted = link.accepted ++ filter_map (read_request s.bodies) (news link.served (read_to link.served bytes (requests_stream link)) (requests_stream link));
+      accepted = link.accepted ++ filter_map read_request (news link.served (read_to link.served bytes (requests_stream link)) (requests_stream link));
     }
 
-abbrev pub answers_next : Setting → Link → Option Request → Link
+abbrev pub answers_next : Session → Link → Option Request → Link
 answers_next s link None = link
 answers_next s link (Some r) = record link { taken = suc link.taken; answers = link.answers ++ answer_frame s r ∷ [] }
 
 -- it takes the first request that it has not taken
-unfoldable pub works : Setting → Link → Link
+unfoldable pub works : Session → Link → Link
 works s link = answers_next s link (slice_get link.accepted link.taken)
 
 -- The caller reads.
@@ -252,11 +242,11 @@ came_as node d packet (Some r) =
     if list_any (is_open_under (named_id r.id)) d.calls then is_used node d packet r else is_late d packet
 
 -- a packet came: it settles the call that is open under the id that it names, or is late
-unfoldable pub came : Setting → ℕ → Desk → List ℕ → Desk
-came s node d packet = came_as node d packet (read_response s.bodies packet)
+unfoldable pub came : Session → ℕ → Desk → List ℕ → Desk
+came s node d packet = came_as node d packet (read_response packet)
 
 -- the caller reads, and each packet that gets whole comes
-unfoldable pub delivers : Setting → ℕ → Option ℕ → List Noted → Link → Desk
+unfoldable pub delivers : Session → ℕ → Option ℕ → List Noted → Link → Desk
 delivers s node bytes calls link =
     fold (came s node)
     (record { calls = calls; link = record link { delivered = read_to link.delivered bytes (answers_stream link) } })
@@ -265,7 +255,7 @@ delivers s node bytes calls link =
 abbrev pub with_desk : Course → ℕ → Desk → Course
 with_desk c node d = record c { calls = d.calls; links = at_node node (λ link. d.link) c.links }
 
-abbrev pub delivered_at : Setting → Course → ℕ → Option ℕ → Option Link → Course
+abbrev pub delivered_at : Session → Course → ℕ → Option ℕ → Option Link → Course
 delivered_at s c node bytes None = c
 delivered_at s c node bytes (Some link) = with_desk c node (delivers s node bytes c.calls link)
 
@@ -276,12 +266,12 @@ closes call = record call { stage = ends_with closed call.stage }
 
 -- What an event makes of what has happened.
 
-abbrev pub step : Setting → Course → Event → Course
+abbrev pub step : Session → Course → Event → Course
 step s c (Call spec) = called s c spec
 step s c (Serve node bytes) = record c { links = at_node node (serves s bytes) c.links }
 step s c (Work node) = record c { links = at_node node (works s) c.links }
 step s c (Deliver node bytes) = delivered_at s c node bytes (link_of node c.links)
 step s c Close = record c { calls = map closes c.calls; closed = true }
 
-abbrev pub after_all : Setting → List Event → Course
+abbrev pub after_all : Session → List Event → Course
 after_all s events = fold (step s) start events

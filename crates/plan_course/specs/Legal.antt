@@ -4,13 +4,17 @@ use Rattle.std.specs.Prelude.{◌≡◌, ◌≤◌, ℕ, suc, true, ◌==◌, if
 use Rattle.session_model.specs.declared.link_log.GotFate.TheVariants.{Used}
 use Rattle.session_model.specs.declared.link_log.GotRow.{GotRow}
 use Rattle.session_model.specs.declared.link_log.SentRow.{SentRow}
-use Rattle.session_model.specs.declared.loaded.CallSpec.{CallSpec}
-use Rattle.session_model.specs.Sessions.{WIDTH, NODE}
-use Rattle.session_model.specs.declared.loaded.Event.{Event}
-use Rattle.session_model.specs.declared.loaded.Event.TheVariants.{Call, Serve, Work, Deliver, Close}
+use Rattle.session_model.specs.declared.session.CallSpec.{CallSpec}
+use Rattle.session_model.specs.Sessions.{WIDTH, NODE, live_node}
+use Rattle.session_model.specs.declared.session.Event.{Event}
+use Rattle.session_model.specs.declared.session.Event.TheVariants.{Call, Serve, Work, Deliver, Close}
+use Rattle.session_model.specs.declared.report.PickNote.{PickNote}
 use Rattle.session_model.specs.declared.report.Refusal.TheVariants as refusal
-use Rattle.plan_course.specs.Packets.{Response, read_request, read_response}
-use Rattle.plan_course.specs.Servants.{Setting, answer_frame}
+use Rattle.session_model.specs.declared.report.Why.TheVariants.{Live}
+use Rattle.rpc_packet.specs.Packets.{read_request, read_response}
+use Rattle.rpc_packet.specs.declared.response.Response.{Response}
+use Rattle.plan_course.specs.Servants.{answer_frame}
+use Rattle.session_model.specs.declared.session.Session.{Session}
 use Rattle.plan_course.specs.Courses.{Fate, replied, closed, Life, Stage, refused, opened, Noted, Link, Course, link_of, packets_to, requests_stream, answers_stream, named_id, sent_row, is_opened, next_id}
 
 abbrev pub IsCallAt : Course → ℕ → Noted → Type 0
@@ -23,9 +27,9 @@ IsLinkAt c node link = link_of node c.links ≡ Some link
 
 -- on a link: the requests that a node accepted are those that the bytes it has read say, its answers are those to the requests
 -- that it took, and the packets that the caller got are those that the bytes it has read say
-pub record IsRead (s : Setting) (link : Link) : Type 0 where
+pub record IsRead (s : Session) (link : Link) : Type 0 where
   pub served_within : link.served ≤ length (requests_stream link)
-  pub requests : link.accepted ≡ filter_map (read_request s.bodies) (packets_to link.served (requests_stream link))
+  pub requests : link.accepted ≡ filter_map read_request (packets_to link.served (requests_stream link))
   pub taken_within : link.taken ≤ length link.accepted
   pub answers : link.answers ≡ map (answer_frame s) (take link.taken link.accepted)
   pub delivered_within : link.delivered ≤ length (answers_stream link)
@@ -47,19 +51,19 @@ IsUsed c node packet bytes id =
     (k : ℕ) × (packet ≡ suc k) × (slice_get (got_at c node) k ≡ Some (record { packet = bytes; fate = Used (record { 0 = id }) }))
 
 -- a packet settled the call with this id: it reads as this response, which names the id
-pub record CameFor (s : Setting) (c : Course) (id node packet : ℕ) (r : Response) : Type 0 where
+pub record CameFor (s : Session) (c : Course) (id node packet : ℕ) (r : Response) : Type 0 where
   pub bytes : List ℕ
   pub used : IsUsed c node packet bytes id
-  pub reads : read_response s.bodies bytes ≡ Some r
+  pub reads : read_response bytes ≡ Some r
   pub names : named_id r.id ≡ id
 
 -- a call ends by a packet that came for it, or by a close
-abbrev pub FateHasCause : Setting → Course → ℕ → Option Fate → Type 0
+abbrev pub FateHasCause : Session → Course → ℕ → Option Fate → Type 0
 FateHasCause s c id (Some (replied node packet r)) = CameFor s c id node packet r
 FateHasCause s c id (Some closed) = c.closed ≡ true
 FateHasCause s c id None = Unit {0}
 
-abbrev pub HasCause : Setting → Course → Stage → Type 0
+abbrev pub HasCause : Session → Course → Stage → Type 0
 HasCause s c (refused why) = Unit {0}
 HasCause s c (opened life) = FateHasCause s c life.id life.fate
 
@@ -81,11 +85,11 @@ pub record IsNamed (c : Course) (node packet id : ℕ) : Type 0 where
 -- What was sent.
 
 -- the frame of a call that was opened at this node: the request of its arguments under its id
-abbrev pub sent_of_stage : Setting → ℕ → CallSpec → Stage → Option SentRow
+abbrev pub sent_of_stage : Session → ℕ → CallSpec → Stage → Option SentRow
 sent_of_stage s node spec (refused why) = None
 sent_of_stage s node spec (opened life) = if life.node == node then Some (sent_row s spec life.id) else None
 
-abbrev pub sent_of : Setting → ℕ → Noted → Option SentRow
+abbrev pub sent_of : Session → ℕ → Noted → Option SentRow
 sent_of s node call = sent_of_stage s node call.spec call.stage
 
 -- Which calls are opened.
@@ -106,16 +110,22 @@ scripted_after shut (Close ∷ events) = scripted_after true events
 abbrev pub scripted : List Event → List Scripted
 scripted events = scripted_after false events
 
--- what a call was at first: refused, or opened under an id at a node
+-- what a call was at first: refused, by the word of a closed session where it tells so, or opened under an id at a node
 pub data Opening : Type 0 where
   as_full : Opening
-  as_closed : Opening
+  as_closed : (word : ℕ) → Opening
   under : (id node : ℕ) → Opening
 
 abbrev pub opening_of : Stage → Opening
 opening_of (refused refusal.Full) = as_full
-opening_of (refused (refusal.Closed word)) = as_closed
+opening_of (refused (refusal.Closed word)) = as_closed word
 opening_of (opened life) = under life.id life.node
+
+-- a full line picks no node, and else the one node is picked, at which a call is opened
+abbrev pub pick_of : Opening → Option PickNote
+pick_of as_full = None
+pick_of (as_closed word) = live_node
+pick_of (under id node) = Some (record { node = node; why = Live })
 
 -- how many of these calls of a line were opened
 abbrev pub opened_of : ℕ → List Noted → ℕ
@@ -126,9 +136,10 @@ opened_of line calls = count_by (λ (call : Noted). is_opened call.stage && (cal
 abbrev pub opening_after : List Noted → Scripted → Opening
 opening_after before call =
     if nat_le WIDTH (opened_of call.spec.line before) then as_full
-    else (if call.closed then as_closed else under (next_id before) NODE)
+    else (if call.closed then as_closed 0 else under (next_id before) NODE)
 
 -- the call at a place is the scripted one there, and was opened or refused by these rules
 pub record IsAsScripted (c : Course) (k : ℕ) (call : Noted) (scripted : Scripted) : Type 0 where
   pub spec : call.spec ≡ scripted.spec
   pub opening : opening_of call.stage ≡ opening_after (take k c.calls) scripted
+  pub pick : call.pick ≡ pick_of (opening_of call.stage)

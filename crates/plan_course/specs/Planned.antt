@@ -7,8 +7,8 @@ use Rattle.tars_frames.specs.Streams.{LONGEST}
 use Rattle.tars_frames.specs.Cutting.{rest_of}
 use Rattle.session_model.specs.Sessions.{func_of}
 use Rattle.session_model.specs.declared.link_log.LinkLog.{LinkLog}
-use Rattle.session_model.specs.declared.loaded.Event.{Event}
-use Rattle.session_model.specs.declared.loaded.Event.TheVariants.{Close}
+use Rattle.session_model.specs.declared.session.Event.{Event}
+use Rattle.session_model.specs.declared.session.Event.TheVariants.{Close}
 use Rattle.session_model.specs.declared.report.CallId.{CallId}
 use Rattle.session_model.specs.declared.report.End.{End}
 use Rattle.session_model.specs.declared.report.End.TheVariants.{Value as ValueEnd, Code, Closed, Refused}
@@ -17,9 +17,9 @@ use Rattle.session_model.specs.declared.report.Report.{Report}
 use Rattle.session_model.specs.declared.report.RouteStep.{RouteStep}
 use Rattle.session_model.specs.declared.report.RouteStep.TheVariants.{Picked, Reported}
 use Rattle.session_model.specs.declared.report.Row.{Row}
-use Rattle.plan_course.specs.Bodies.{values_of}
-use Rattle.plan_course.specs.Packets.{Response}
-use Rattle.plan_course.specs.Servants.{Setting}
+use Rattle.rpc_packet.specs.Bodies.{values_of}
+use Rattle.rpc_packet.specs.declared.response.Response.{Response}
+use Rattle.session_model.specs.declared.session.Session.{Session}
 use Rattle.plan_course.specs.Courses.{Fate, replied, closed, Stage, refused, opened, Noted, Link, Course, answers_stream, step, after_all}
 
 -- How a call came out.
@@ -33,20 +33,20 @@ value_end node packet None = Code node packet REPLY_NOT_READ
 value_end node packet (Some values) = ValueEnd node packet values
 
 -- the values that the body of a reply says, for a function
-abbrev pub reply_values : Setting → ℕ → List ℕ → Option (List Value)
-reply_values s func body = values_of s.bodies s.loaded.client (reply_members_of (func_of s.loaded func)) body
+abbrev pub reply_values : Session → ℕ → List ℕ → Option (List Value)
+reply_values s func body = values_of s.client (reply_members_of (func_of s func)) body
 
 -- what a reply says
-unfoldable pub reply_end : Setting → ℕ → ℕ → ℕ → Response → End
+unfoldable pub reply_end : Session → ℕ → ℕ → ℕ → Response → End
 reply_end s func node packet r =
     if is_zero r.ret then value_end node packet (reply_values s func r.body) else Code node packet r.ret
 
-abbrev pub fate_end : Setting → ℕ → Option Fate → End
+abbrev pub fate_end : Session → ℕ → Option Fate → End
 fate_end s func (Some (replied node packet r)) = reply_end s func node packet r
 fate_end s func (Some closed) = Closed
 fate_end s func None = Closed
 
-abbrev pub stage_end : Setting → ℕ → Stage → End
+abbrev pub stage_end : Session → ℕ → Stage → End
 stage_end s func (refused why) = Refused why
 stage_end s func (opened life) = fate_end s func life.fate
 
@@ -54,7 +54,7 @@ abbrev pub id_of : Stage → Option CallId
 id_of (refused why) = None
 id_of (opened life) = Some (record { 0 = life.id })
 
-abbrev pub row_of : Setting → Noted → Row
+abbrev pub row_of : Session → Noted → Row
 row_of s call =
     record {
       call = call.spec.call;
@@ -115,10 +115,10 @@ collected_call call = record call { stage = collects call.stage }
 abbrev pub collected_all : Course → Course
 collected_all c = record c { calls = map collected_call c.calls }
 
-unfoldable pub ended : Setting → List Event → Course
+unfoldable pub ended : Session → List Event → Course
 ended s events = collected_all (step s (after_all s events) Close)
 
-abbrev pub report_of : Setting → Course → Report
+abbrev pub report_of : Session → Course → Report
 report_of s c =
     record {
       calls = map (row_of s) c.calls;
@@ -127,5 +127,5 @@ report_of s c =
     }
 
 -- the report of a script
-unfoldable pub planned : Setting → Report
-planned s = report_of s (ended s s.loaded.events)
+unfoldable pub planned : Session → Report
+planned s = report_of s (ended s s.events)

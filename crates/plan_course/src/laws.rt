@@ -1,46 +1,59 @@
 //! The laws.
 
-ghost use Rattle.std.specs.Prelude.{◌≡◌, ℕ, List, Some, map, filter_map, slice_get};
-ghost use Rattle.session_model.specs.declared.loaded.Event.{Event};
-ghost use Rattle.plan_course.specs.Bodies.{Reading};
+ghost use Rattle.std.specs.Prelude.{◌≡◌, ℕ, List, All, Some, map, filter_map, slice_get};
+ghost use Rattle.tars_model.specs.Schemas.{IsSchema};
+ghost use Rattle.session_model.specs.Judged.{IsJudged};
+ghost use Rattle.session_model.specs.declared.session.Event.{Event};
 ghost use Rattle.plan_course.specs.Courses.{Life, Link, Noted, opened};
 ghost use Rattle.plan_course.specs.Legal.{IsCallAt, IsLinkAt, IsRead, HasCause, IsUsed, IsNamed, sent_of, Scripted, scripted, IsAsScripted};
 ghost use Rattle.plan_course.specs.LegalReports.{IsLegal};
+ghost use Rattle.plan_course.specs.Answered.{IsAnsweredByRule, TakesAll, HasNoRest};
+ghost use Rattle.plan_course.specs.OneNode.{IsOneNode};
 ghost use Rattle.plan_course.specs.Planned.{ended, planned};
-ghost use Rattle.plan_course.specs.Servants.{Setting};
-
-/// All bytes can be told: they are a body with its fields, or none.
-pub fn bodies_are_told()
-    ensures { (bytes : List ℕ) → Reading bytes }
-{}
+ghost use Rattle.session_model.specs.declared.session.Session.{Session};
 
 /// What holds of a run, whatever its events are.
 pub fn legal_course()
     // There is a call for each scripted one, in order.
-    ensures rows { (s : Setting) (events : List Event) → map (λ (call : Noted). call.spec) (ended s events).calls ≡ map (λ (text : Scripted). text.spec) (scripted events) }
+    ensures rows { (s : Session) (events : List Event) → map (λ (call : Noted). call.spec) (ended s events).calls ≡ map (λ (text : Scripted). text.spec) (scripted events) }
     // No id stands twice.
-    ensures ids { (s : Setting) (events : List Event) (j k : ℕ) (call other : Noted) (life next : Life) → IsCallAt (ended s events) j call
+    ensures ids { (s : Session) (events : List Event) (j k : ℕ) (call other : Noted) (life next : Life) → IsCallAt (ended s events) j call
         → IsCallAt (ended s events) k other → call.stage ≡ opened life → other.stage ≡ opened next → life.id ≡ next.id → j ≡ k }
     // What was sent to a node are the requests of the calls that were opened there, each once, in order.
-    ensures sends { (s : Setting) (events : List Event) (node : ℕ) (link : Link) → IsLinkAt (ended s events) node link
+    ensures sends { (s : Session) (events : List Event) (node : ℕ) (link : Link) → IsLinkAt (ended s events) node link
         → link.sent ≡ filter_map (sent_of s node) (ended s events).calls }
     // On each link what was read is what the bytes say, and each answer is that to the request that was taken in its turn.
-    ensures reads { (s : Setting) (events : List Event) (node : ℕ) (link : Link) → IsLinkAt (ended s events) node link → IsRead s link }
+    ensures reads { (s : Session) (events : List Event) (node : ℕ) (link : Link) → IsLinkAt (ended s events) node link → IsRead s link }
     // Each end has its cause: a packet that came for the call, or the close.
-    ensures ends { (s : Setting) (events : List Event) (k : ℕ) (call : Noted) → IsCallAt (ended s events) k call → HasCause s (ended s events) call.stage }
+    ensures ends { (s : Session) (events : List Event) (k : ℕ) (call : Noted) → IsCallAt (ended s events) k call → HasCause s (ended s events) call.stage }
     // Each packet that settled a call is named by the call with its id.
-    ensures replies { (s : Setting) (events : List Event) (node packet id : ℕ) (bytes : List ℕ)
+    ensures replies { (s : Session) (events : List Event) (node packet id : ℕ) (bytes : List ℕ)
         → IsUsed (ended s events) node packet bytes id → IsNamed (ended s events) node packet id }
 {}
 
 /// What holds while there is one line of eight and one node, and nothing is collected before the end.
 pub fn one_node_course()
     // Each call is refused or opened by what came before it.
-    ensures refusals { (s : Setting) (events : List Event) (k : ℕ) (call : Noted) → IsCallAt (ended s events) k call
+    ensures refusals { (s : Session) (events : List Event) (k : ℕ) (call : Noted) → IsCallAt (ended s events) k call
         → (text : Scripted) × (slice_get (scripted events) k ≡ Some text) × IsAsScripted (ended s events) k call text }
 {}
 
 /// The report of every session is legal.
 pub fn legal_report()
-    ensures { (s : Setting) → IsLegal s (planned s) }
+    ensures { (s : Session) → IsLegal s (planned s) }
+{}
+
+/// What holds of it while there is one line of eight and one node, and nothing is collected before the end.
+pub fn one_node_report()
+    ensures { (s : Session) → IsOneNode s (planned s) }
+{}
+
+/// Where loading has judged the session, each reply is what the rule of its function gives for the scripted arguments.
+pub fn answered_by_rule()
+    ensures { (s : Session) → IsSchema s.client → IsJudged s → IsAnsweredByRule s (planned s) }
+{}
+
+/// And where each delivery takes all the bytes that wait, nothing is left of a packet.
+pub fn nothing_left()
+    ensures { (s : Session) → IsSchema s.client → IsJudged s → All TakesAll s.events → HasNoRest (planned s) }
 {}

@@ -7,4 +7,6 @@
 
 mod laws;
 
-pub use laws::{bodies_are_told, legal_course, legal_report, one_node_course};
+pub use laws::{
+    answered_by_rule, legal_course, legal_report, nothing_left, one_node_course, one_node_report,
+};

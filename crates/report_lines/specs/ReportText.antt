@@ -8,7 +8,7 @@ use Rattle.session_model.specs.declared.link_log.GotFate.TheVariants.{Used, Late
 use Rattle.session_model.specs.declared.link_log.GotRow.{GotRow}
 use Rattle.session_model.specs.declared.link_log.LinkLog.{LinkLog}
 use Rattle.session_model.specs.declared.link_log.SentRow.{SentRow}
-use Rattle.session_model.specs.declared.loaded.Loaded.{Loaded}
+use Rattle.session_model.specs.declared.session.Session.{Session}
 use Rattle.session_model.specs.declared.report.CallId.{CallId}
 use Rattle.session_model.specs.declared.report.PickNote.{PickNote}
 use Rattle.session_model.specs.declared.report.Report.{Report}
@@ -28,7 +28,7 @@ unfoldable pub id_text : Option CallId → List ℕ
 id_text None = []
 id_text (Some id) = codes " id " ++ decimal id.0
 
-unfoldable pub call_line : Loaded → Row → List ℕ
+unfoldable pub call_line : Session → Row → List ℕ
 call_line l row =
     codes "call " ++ decimal row.call ++ codes " line " ++ decimal row.line ++ codes " " ++ (func_of l row.func).name
     ++ pick_text row.pick ++ id_text row.id ++ codes " " ++ end_text row.end ++ codes "\n"
@@ -79,7 +79,7 @@ done_line rows =
     ++ codes " one-way " ++ decimal (count_by (λ row. not row.two_way) rows) ++ codes "\n"
 
 -- the lines of the calls, the sent lines of all nodes, the got lines of all nodes, and the last line
-abbrev pub report_text_of : Loaded → Report → List ℕ
+abbrev pub report_text_of : Session → Report → List ℕ
 report_text_of l report =
     flat_map (call_line l) report.calls ++ flat_map sent_lines report.links
     ++ flat_map (got_lines report.calls) report.links ++ done_line report.calls

@@ -4,18 +4,18 @@ ghost use Rattle.session_model.specs.Sessions.{interface_of, func_of};
 ghost use Rattle.report_lines.specs.ReportText.{pick_text, id_text, call_line, done_line};
 
 use crate::lines::Lines;
-use session_model::{CallId, Loaded, PickNote, Row};
+use session_model::{CallId, PickNote, Row, Session};
 use std::alloc::AllocError;
 use tars_model::FuncDesc;
 
 /// The functions of the interface, and none where there is no such interface.
-fn funcs_of(loaded: &Loaded) -> &[FuncDesc]
-    ensures { result.now ≡ (interface_of loaded.now).funcs }
+fn funcs_of(session: &Session) -> &[FuncDesc]
+    ensures { result.now ≡ (interface_of session.now).funcs }
 {
-    match loaded
+    match session
         .client
         .interfaces()
-        .get(loaded.client_interface as usize)
+        .get(session.client_interface as usize)
     {
         Some(interface) => interface.funcs.as_slice(),
         None => &[],
@@ -23,10 +23,10 @@ fn funcs_of(loaded: &Loaded) -> &[FuncDesc]
 }
 
 /// The name of a function of the interface, and none where it has no such function.
-fn func_name(loaded: &Loaded, func: u32) -> &[u8]
-    ensures { result.now ≡ (func_of loaded.now func).name }
+fn func_name(session: &Session, func: u32) -> &[u8]
+    ensures { result.now ≡ (func_of session.now func).name }
 {
-    match funcs_of(loaded).get(func as usize) {
+    match funcs_of(session).get(func as usize) {
         Some(func) => func.name.as_slice(),
         None => &[],
     }
@@ -34,22 +34,22 @@ fn func_name(loaded: &Loaded, func: u32) -> &[u8]
 
 impl Lines {
     /// Adds the lines of the calls.
-    pub fn put_calls(&mut self, loaded: &Loaded, rows: &[Row]) -> Result<(), AllocError>
-        ensures { OnOk result (self.new ≡ self.old ++ flat_map (call_line loaded.now) rows.now) }
+    pub fn put_calls(&mut self, session: &Session, rows: &[Row]) -> Result<(), AllocError>
+        ensures { OnOk result (self.new ≡ self.old ++ flat_map (call_line session.now) rows.now) }
     {
         for row in rows {
-            self.put_call(loaded, row)?;
+            self.put_call(session, row)?;
         }
         Ok(())
     }
 
     #[tactic(auto, unfolding(crate::specs::ReportText::call_line))]
-    fn put_call(&mut self, loaded: &Loaded, row: &Row) -> Result<(), AllocError>
-        ensures { OnOk result (self.new ≡ self.old ++ call_line loaded.now row.now) }
+    fn put_call(&mut self, session: &Session, row: &Row) -> Result<(), AllocError>
+        ensures { OnOk result (self.new ≡ self.old ++ call_line session.now row.now) }
     {
         let (call, line, end) = (row.call, row.line, &row.end);
         self.text.show(format_args!("call {call} line {line} "))?;
-        self.text.put(func_name(loaded, row.func))?;
+        self.text.put(func_name(session, row.func))?;
         self.put_pick(&row.pick)?;
         self.put_id(&row.id)?;
         self.text.show(format_args!(" {end}\n"))

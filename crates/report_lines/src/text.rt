@@ -10,7 +10,7 @@ pub fn report_text(alloc: Global, loaded: &Loaded, report: &Report) -> Result<Ve
     ensures { IfOk result (λ text. text.items ≡ report_text_of loaded.now report.now) }
 {
     let mut lines = Lines::new(alloc);
-    lines.put_calls(loaded, report.calls.as_slice())?;
+    lines.put_calls(loaded.session(), report.calls.as_slice())?;
     lines.put_sent(report.links.as_slice())?;
     lines.put_got(report.calls.as_slice(), report.links.as_slice())?;
     lines.put_done(report.calls.as_slice())?;

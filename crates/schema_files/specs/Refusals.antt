@@ -3,7 +3,7 @@ use Rattle.std.specs.Prelude.{ℕ, List, ◌++◌, codes}
 use Rattle.std.specs.Fmt.{decimal}
 use Rattle.idl_load.specs.declared.file_fault.FileFault.{FileFault}
 use Rattle.idl_load.specs.declared.file_fault.FileFault.TheVariants as file
-use Rattle.idl_parse.specs.LexWhy.{number_of}
+use Rattle.idl_lex.specs.LexWhy.{number_of}
 use Rattle.idl_parse.specs.ParseWhy.{number_of as parse_number_of}
 use Rattle.idl_scene.specs.Faults.{number_of as rule_number_of}
 use Rattle.idl_scene.specs.declared.check_fault.CheckWhy.TheVariants.{TooMany}

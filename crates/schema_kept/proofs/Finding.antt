@@ -5,8 +5,8 @@ use Rattle.std.specs.List.{All}
 use Rattle.std.specs.Prelude.{Ok, Err, nat_le, slice_range}
 use Rattle.facts.specs.ResultSteps.{◌>>=◌}
 use Rattle.idl_parse.specs.Files.{File, include_spans}
-use Rattle.idl_parse.specs.Meanings.{plain_text}
-use Rattle.idl_parse.specs.declared.span.Span.{Span}
+use Rattle.idl_lex.specs.Meanings.{plain_text}
+use Rattle.idl_lex.specs.declared.span.Span.{Span}
 use Rattle.idl_parse.specs.declared.tree.module.Entry.{Entry}
 use Rattle.idl_load.specs.FileText.{FileText, tree, bad}
 use Rattle.idl_load.specs.Loading.{MAX_FILES, Reading, refused, Loads, begin, file_of, is_passed, include, follow, visit_read, visit, nothing_begun, load_of}

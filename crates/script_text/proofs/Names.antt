@@ -4,10 +4,10 @@ use Rattle.std.specs.Prelude.{is_some, MatchOption}
 use Rattle.std.specs.Bool.{Decides}
 use Rattle.std.specs.List.{list_all}
 use Rattle.std.proofs.lemmas.Bool.{and_parts, and_from, not_from_false, leb-true, le-leb, eqb-true, false_from_ne_true}
-use Rattle.idl_parse.specs.declared.keyword.Keyword.{Keyword}
-use Rattle.idl_parse.specs.LexSteps.{keyword_of}
-use Rattle.idl_parse.specs.Spellings.{keyword_text}
-use Rattle.idl_parse.proofs.CallerLemmas.{keyword_means, keyword_found, keyword_is}
+use Rattle.idl_lex.specs.declared.keyword.Keyword.{Keyword}
+use Rattle.idl_lex.specs.LexSteps.{keyword_of}
+use Rattle.idl_lex.specs.Spellings.{keyword_text}
+use Rattle.idl_lex.proofs.CallerLemmas.{keyword_means, keyword_found, keyword_is}
 use Rattle.script_text.specs.TextLimits.{MAX_NAME}
 use Rattle.script_text.specs.Words.{is_letter, IsName}
 use Rattle.script_text.specs.ScanSteps.{is_keyword, is_name, name, name_before}

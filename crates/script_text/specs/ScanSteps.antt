@@ -3,7 +3,7 @@
 use Rattle.std.specs.Prelude.{◌≡◌, ℕ, Bool, ◌&&◌, ◌==◌, not, nat_le, if◌then◌else◌, slice_index, List, length, take, drop, Option, Some, None, is_some, position}
 use Rattle.std.specs.List.{list_all}
 use Rattle.std.specs.Str.{bytes_eq, is_utf8}
-use Rattle.idl_parse.specs.LexSteps.{keyword_of}
+use Rattle.idl_lex.specs.LexSteps.{keyword_of}
 use Rattle.script_text.specs.TextLimits.{MAX_NAME}
 use Rattle.script_text.specs.Words.{is_letter}
 use Rattle.facts.specs.OptionSteps.{◌>>=◌}

@@ -6,7 +6,7 @@ ghost use Rattle.script_text.specs.Words.{is_letter};
 ghost use Rattle.script_text.specs.ScanSteps.{Gives, after, word_before, is_keyword, is_name};
 ghost use Rattle.script_text.specs.ScanSteps.{name, name_before, utf8};
 
-use idl_parse::Keyword;
+use idl_lex::Keyword;
 use std::str;
 
 /// The longest name, in bytes.

@@ -1,3 +1,4 @@
 pub mod Sessions
 pub mod Replies
 pub mod ReportWords
+pub mod Judged

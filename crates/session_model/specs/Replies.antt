@@ -1,11 +1,10 @@
 -- What a servant replies to a call by its rule (docs/SCRIPTS.md, "Rules").
-use Rattle.std.specs.Prelude.{ℕ, if◌then◌else◌, ℤ, pos, neg_ℤ, ◌+ℤ◌, List, slice_index_or}
+use Rattle.std.specs.Prelude.{ℕ, if◌then◌else◌, ℤ, pos, neg_ℤ, ◌+ℤ◌, List}
 use Rattle.tars_model.specs.Ranges.{is_int}
-use Rattle.tars_model.specs.declared.value.Value.{Value, Num, out-Value}
-use Rattle.tars_model.specs.declared.value.Value.TheOpen as layer
-use Rattle.tars_model.specs.declared.value.Pair.{Pair}
-use Rattle.session_model.specs.declared.loaded.Rule.{Rule}
-use Rattle.session_model.specs.declared.loaded.Rule.TheVariants.{Add}
+use Rattle.tars_model.specs.declared.value.Value.{Value}
+use Rattle.rpc_packet.specs.Packets.{number_at}
+use Rattle.session_model.specs.declared.session.Rule.{Rule}
+use Rattle.session_model.specs.declared.session.Rule.TheVariants.{Add}
 
 -- a sum, or a return code
 pub data Reply : Type 0 where
@@ -16,13 +15,9 @@ pub data Reply : Type 0 where
 abbrev pub UNKNOWN : ℤ
 UNKNOWN = neg_ℤ (pos 99)
 
-abbrev pub number_of_layer : layer.Value-F Value Pair → ℤ
-number_of_layer (layer.Num n) = n
-number_of_layer _ = pos 0
-
 -- the number at an index among the arguments
 abbrev pub argument : List Value → ℕ → ℤ
-argument args k = number_of_layer (out-Value (slice_index_or args k (Num (pos 0))))
+argument args k = number_at args k
 
 -- a sum that is an int, and else the code
 abbrev pub added : ℤ → Reply

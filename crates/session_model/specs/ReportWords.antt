@@ -8,7 +8,7 @@ use Rattle.session_model.specs.declared.report.Refusal.{Refusal}
 use Rattle.session_model.specs.declared.report.Refusal.TheVariants as refusal
 use Rattle.session_model.specs.declared.report.Why.{Why}
 use Rattle.session_model.specs.declared.report.Why.TheVariants.{Live}
-use Rattle.session_model.specs.Replies.{number_of_layer}
+use Rattle.rpc_packet.specs.Packets.{number_at}
 
 -- what was known of the node
 abbrev pub why_text : Why → List ℕ
@@ -16,7 +16,7 @@ why_text Live = codes "live"
 
 -- what a function returned, the first value of its reply, which is a number
 abbrev pub returned : List Value → ℤ
-returned values = number_of_layer (out-Value (slice_index_or values 0 (Num (pos 0))))
+returned values = number_at values 0
 
 abbrev pub refusal_text : Refusal → List ℕ
 refusal_text refusal.Full = codes "full"

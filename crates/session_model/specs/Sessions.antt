@@ -4,11 +4,11 @@ use Rattle.tars_model.specs.declared.func_desc.FuncDesc.{FuncDesc}
 use Rattle.tars_model.specs.declared.func_desc.Param.{Param}
 use Rattle.tars_model.specs.declared.interface_desc.InterfaceDesc.{InterfaceDesc}
 use Rattle.tars_model.specs.declared.ty.Ty.{Int}
-use Rattle.session_model.specs.declared.loaded.Endpoint.{Endpoint}
-use Rattle.session_model.specs.declared.loaded.FuncRule.{FuncRule}
-use Rattle.session_model.specs.declared.loaded.Loaded.{Loaded}
-use Rattle.session_model.specs.declared.loaded.Rule.{Rule}
-use Rattle.session_model.specs.declared.loaded.Rule.TheVariants.{Add}
+use Rattle.session_model.specs.declared.session.Endpoint.{Endpoint}
+use Rattle.session_model.specs.declared.session.FuncRule.{FuncRule}
+use Rattle.session_model.specs.declared.session.Session.{Session}
+use Rattle.session_model.specs.declared.session.Rule.{Rule}
+use Rattle.session_model.specs.declared.session.Rule.TheVariants.{Add}
 use Rattle.session_model.specs.declared.report.PickNote.{PickNote}
 use Rattle.session_model.specs.declared.report.Why.TheVariants.{Live}
 
@@ -37,21 +37,21 @@ func_of_two func first second =
 
 -- The parts of a loaded script: the interface, a function of it by its number, the node, and the servant's rule.
 
-abbrev pub interface_of : Loaded → InterfaceDesc
+abbrev pub interface_of : Session → InterfaceDesc
 interface_of l = slice_index_or l.client.interfaces l.client_interface (record { «module» = []; name = []; funcs = [] })
 
-abbrev pub func_of : Loaded → ℕ → FuncDesc
+abbrev pub func_of : Session → ℕ → FuncDesc
 func_of l k = slice_index_or (interface_of l).funcs k (func_of_two [] [] [])
 
-abbrev pub node_of : Loaded → Endpoint
+abbrev pub node_of : Session → Endpoint
 node_of l = slice_index_or l.object.nodes 0 (record { host = []; port = 0; timeout = 0 })
 
-abbrev pub func_rule_of : Loaded → FuncRule
+abbrev pub func_rule_of : Session → FuncRule
 func_rule_of l = slice_index_or l.rules 0 (record { func = 0; rule = Add 0 0 })
 
-abbrev pub rule_of : Loaded → Rule
+abbrev pub rule_of : Session → Rule
 rule_of l = (func_rule_of l).rule
 
 -- the function that has the rule
-abbrev pub ruled_func : Loaded → FuncDesc
+abbrev pub ruled_func : Session → FuncDesc
 ruled_func l = func_of l (func_rule_of l).func

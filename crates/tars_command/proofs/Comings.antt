@@ -4,17 +4,17 @@ use Rattle.std.specs.Prelude.{Result, Ok, Err, IsErr, IsErrAnd}
 use Rattle.std.specs.declared.vec.Vec.{Vec}
 use Rattle.canonical_text.specs.Canonical.{canonical}
 use Rattle.command_words.specs.Asked.{Asked, check, plan, encode, decode, compat}
+use Rattle.plan_course.specs.Planned.{planned}
 use Rattle.report_lines.specs.ReportText.{report_text_of}
 use Rattle.schema_files.specs.SchemaLoading as schema
 use Rattle.schema_files.specs.SchemaLoading.{SchemaAnswer, LoadsSchema}
 use Rattle.schema_files.specs.declared.load_fault.LoadFault.{LoadFault}
 use Rattle.schema_files.specs.declared.load_fault.LoadFault.TheVariants as faults
 use Rattle.schema_files.proofs.CallerLemmas.{ForSchema, always, any_held, one_schema}
-use Rattle.session.specs.Loading as load
-use Rattle.session.specs.Loading.{LoadAnswer, Loads, IsLoaded}
-use Rattle.session.specs.Planned.{planned}
-use Rattle.session.proofs.CallerLemmas.{ForScript, loads_loaded, one_answer}
-use Rattle.session_model.specs.declared.loaded.Loaded.{Loaded}
+use Rattle.session_load.specs.Loading as load
+use Rattle.session_load.specs.Loading.{LoadAnswer, Loads}
+use Rattle.session_load.proofs.CallerLemmas.{ForScript, one_answer}
+use Rattle.session_model.specs.declared.session.Session.{Session}
 use Rattle.struct_files.specs.Answers as text
 use Rattle.struct_files.specs.Answers.{TextAnswer, IsAnswered}
 use Rattle.struct_files.specs.Comparing.{ComparesFiles}
@@ -111,7 +111,7 @@ module _ (A : Type 0) (told : Option Contents) where
     pub plan_failed : (fault : LoadFault) (result : Result (Vec ℕ A) LoadFault) → IsErr result × IsErrAnd result (λ e. e ≡ fault) → ForScript told script (Err fault) → ForAsked (plan script) result
     plan_failed fault result is given = by_error (plan script) fault result is (plan_fault fault given)
 
-    pub plan_printed : (l : Loaded) (own : Vec ℕ A) → ForScript told script (Ok l) → own.items ≡ report_text_of l (planned l) → ForAsked (plan script) (Ok own)
+    pub plan_printed : (l : Session) (own : Vec ℕ A) → ForScript told script (Ok l) → own.items ≡ report_text_of l (planned l) → ForAsked (plan script) (Ok own)
     plan_printed l own given is = (given.0, given.1, by_text given.0 (plan script) own (report_text_of l (planned l)) is (run (load.loaded l) given.2.holds))
 
   -- the same by an answer of a command on a struct
@@ -132,7 +132,3 @@ module _ (A : Type 0) (told : Option Contents) where
   pub compat_comes : (old new home name : List ℕ) (result : Result (Vec ℕ A) LoadFault) → (held : Held) × IsHeld told held × IsAnswered (ComparesFiles held old new home name) result → ForAsked (compat old new home name) result
   compat_comes old new home name result given =
       (given.0, given.1, by_answer given.0 (compat old new home name) (ComparesFiles given.0 old new home name) (λ answer holds. compared answer holds) result given.2)
-
--- a script that is loaded can be run
-pub is_loaded : (told : Option Contents) (script : List ℕ) (l : Loaded) → ForScript told script (Ok l) → IsLoaded l
-is_loaded told script l given = loads_loaded given.0 script l given.2.holds

@@ -4,8 +4,7 @@ ghost use Rattle.std.specs.Prelude.{◌≡◌, ◌≢◌, ◌⊎◌, ℕ, List, 
 ghost use Rattle.std.specs.List.{list_all};
 ghost use Rattle.command_words.specs.Asked.{check, plan, asked_by};
 ghost use Rattle.command_words.specs.Words.{AreNoForm, is_word};
-ghost use Rattle.session.specs.Loading.{IsLoaded};
-ghost use Rattle.session.specs.Planned.{planned};
+ghost use Rattle.plan_course.specs.Planned.{planned};
 ghost use Rattle.report_lines.specs.ReportText.{report_text_of};
 ghost use Rattle.tars_base.specs.Causes.{HasCauseOf, Rose};
 ghost use Rattle.tars_base.specs.Contents.{Held, IsHeld};
@@ -32,7 +31,6 @@ fn check_text<F: Files>(alloc: Global, files: &mut F, file: &str) -> Result<Vec<
 
 /// The report of a session, as it is printed.
 fn session_text(alloc: Global, loaded: &Loaded) -> Result<Vec<u8>, AllocError>
-    requires { IsLoaded loaded.now }
     ensures { IfOk result (λ text. text.items ≡ report_text_of loaded.now (planned loaded.now)) }
 {
     let report = run_plan(alloc, loaded)?;

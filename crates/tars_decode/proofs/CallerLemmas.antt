@@ -1,4 +1,4 @@
--- For the crates above: members that may be read.
+-- For the crates above: members that may be read, and the defaults of types.
 use Rattle.std.proofs.Common.{◌≡◌, ℕ, true, false, List, sym, ◌∙◌}
 use Rattle.std.specs.List.{All}
 use Rattle.tars_model.specs.Declarations.{Declared, members_at}
@@ -8,6 +8,7 @@ use Rattle.tars_model.specs.declared.member.Member.{Member}
 use Rattle.tars_decode.specs.Decoding.{MembersFit}
 use Rattle.tars_decode.proofs.SchemaLaws.{structs_rise}
 use Rattle.tars_decode.proofs.SchemaDefaults.{struct_defaults}
+pub use Rattle.tars_decode.proofs.SchemaDefaults.{type_default}
 
 -- those of each struct of a schema
 pub struct_members_fit : {d : Declared} → IsSchema d → (n : ℕ) → MembersFit d (members_at d n)

@@ -257,3 +257,7 @@ below (suc bound) d schema n lt = by_test (ltb n (length d.structs)) refl (below
 
 pub struct_defaults : {d : Declared} → IsSchema d → (n : ℕ) → All (DefaultFits d) (members_at d n)
 struct_defaults {d} schema n = λ k m within optional. below (suc n) d schema n (omega arith) k m within
+
+-- so is the default of each type over what is declared
+pub type_default : {d : Declared} {t : Ty} → IsSchema d → IsType (length d.enums) (length d.structs) t → fits d t (default_of d t) ≡ true
+type_default {d} schema type = default_fits d (length d.structs) (first_int schema) type (λ k lt. below (suc k) d schema k (omega arith))

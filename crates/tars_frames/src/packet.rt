@@ -36,4 +36,13 @@ impl Packet {
     {
         self.bytes.as_slice()
     }
+
+    /// The bytes, which are not copied.
+    pub fn into_vec(self) -> Vec<u8>
+        ensures value { result.items ≡ self }
+        ensures whole { IsPacket LONGEST self }
+    {
+        let Packet { bytes } = self;
+        bytes
+    }
 }

@@ -1,11 +1,12 @@
 //! What files declare, and what is asked of the last struct of one.
 
 ghost use Rattle.std.specs.Prelude.{◌<◌, ◌^◌, [], ◌∷◌, length};
-ghost use Rattle.idl_parse.specs.Tokens.{Tokens as TokensOf};
+ghost use Rattle.idl_lex.specs.Tokens.{Tokens as TokensOf};
 
 use crate::structs::{Asked, put_last_struct};
 use idl_check::{CheckFault, check};
-use idl_parse::{Ast, Token, lex, parse};
+use idl_lex::{Token, lex};
+use idl_parse::{Ast, parse};
 use row_pages::{Page, bytes_of};
 use std::slice;
 use tars_model::Schema;

@@ -7,12 +7,12 @@ use Rattle.std.specs.Char.{digit_value}
 use Rattle.std.specs.List.{list_all, prefix_len}
 use Rattle.std.specs.Str.Parse.{digits_value}
 use Rattle.facts.proofs.ResultLaws.{bind_gave}
-use Rattle.idl_parse.specs.Forms.{IsForm, magnitude, is_in_range}
-use Rattle.idl_parse.specs.LexSteps.{run, after_run}
-use Rattle.idl_parse.specs.Meanings.{whole_number}
-use Rattle.idl_parse.specs.declared.kind.Kind.TheVariants as kinds
-use Rattle.idl_parse.proofs.Lexing.Numbers.DigitLaws.{le-digits_value_after}
-use Rattle.idl_parse.proofs.Lexing.Words.RunLaws.{take_is_run, drop_is_after, run_passes, run_some}
+use Rattle.idl_lex.specs.Forms.{IsForm, magnitude, is_in_range}
+use Rattle.idl_lex.specs.LexSteps.{run, after_run}
+use Rattle.idl_lex.specs.Meanings.{whole_number}
+use Rattle.idl_lex.specs.declared.kind.Kind.TheVariants as kinds
+use Rattle.idl_lex.proofs.Lexing.Numbers.DigitLaws.{le-digits_value_after}
+use Rattle.idl_lex.proofs.Lexing.Words.RunLaws.{take_is_run, drop_is_after, run_passes, run_some}
 use Rattle.tars_model.specs.Values.{is_signed}
 use Rattle.value_text.specs.ReadSteps.{Read, unexpected, natural_len, positive_len, word_of, number_word_at, out_of_range, integer_at, common_len}
 use Rattle.value_text.specs.Spelling.{is_decimal, is_positive, NaturalSpells, NumberSpells}

@@ -3,11 +3,11 @@ use Rattle.std.proofs.Common.{◌≡◌, ◌<◌, ◌+◌, ◌-◌, ℕ, suc, �
 use Rattle.std.proofs.lemmas.Bool.Decides.{nat_tests}
 use Rattle.std.specs.List.{prefix_len}
 use Rattle.std.specs.Str.Parse.{digits_value}
-use Rattle.idl_parse.specs.Bytes.{begins}
-use Rattle.idl_parse.specs.Forms.{is_in_range}
-use Rattle.idl_parse.specs.LexSteps.{run, after_run}
-use Rattle.idl_parse.specs.Meanings.{whole_number}
-use Rattle.idl_parse.proofs.Lexing.Words.RunLaws.{take_is_run, drop_is_after, run_passes, run_some}
+use Rattle.idl_lex.specs.Bytes.{begins}
+use Rattle.idl_lex.specs.Forms.{is_in_range}
+use Rattle.idl_lex.specs.LexSteps.{run, after_run}
+use Rattle.idl_lex.specs.Meanings.{whole_number}
+use Rattle.idl_lex.proofs.Lexing.Words.RunLaws.{take_is_run, drop_is_after, run_passes, run_some}
 use Rattle.tars_model.specs.Values.{is_signed}
 use Rattle.value_text.specs.ReadSteps.{natural_len, positive_len, word_of, number_word_at, out_of_range, integer_at}
 use Rattle.value_text.specs.Spelling.{is_decimal, is_positive, NaturalSpells, NumberSpells}

@@ -4,7 +4,7 @@ use Rattle.std.proofs.lemmas.Bool.{and_parts, and_from}
 use Rattle.std.proofs.lemmas.List.{append-nil}
 use Rattle.std.specs.Char.{is_ascii_alphabetic}
 use Rattle.std.specs.List.{list_all}
-use Rattle.idl_parse.specs.Bytes.{begins}
+use Rattle.idl_lex.specs.Bytes.{begins}
 use Rattle.tars_model.specs.Declarations.{Declared, members_at}
 use Rattle.tars_model.specs.Values.{told, fit_told, entry_fits, entry_key, keys_rise}
 use Rattle.tars_model.specs.declared.member.Member.{Member}

@@ -6,7 +6,7 @@ use Rattle.std.specs.Char.{digit_value}
 use Rattle.std.specs.List.{flat_map}
 use Rattle.canonical_text.specs.Canonical.{byte_text, quoted}
 use Rattle.hex.specs.Hex.{upper_digits, encode_with, encode_upper}
-use Rattle.idl_parse.specs.Bytes.{begins, is_word_byte}
+use Rattle.idl_lex.specs.Bytes.{begins, is_word_byte}
 use Rattle.value_text.specs.Printed.{are_bytes, blob_text}
 use Rattle.value_text.specs.Spelling.{is_hexadecimal, PairSpells, UnitSpells, plain, marked, digits, TextSpells, ends_text, more_text, BlobSpells, ends_blob, more_blob}
 

@@ -3,7 +3,7 @@ use Rattle.std.proofs.Common.{◌≡◌, ℕ, true, List, [], ◌∷◌}
 use Rattle.std.proofs.lemmas.List.Elements.{recursion_from_All}
 use Rattle.std.specs.Char.{is_ascii_alphabetic}
 use Rattle.std.specs.List.{AllByRecursion}
-use Rattle.idl_parse.specs.Bytes.{begins}
+use Rattle.idl_lex.specs.Bytes.{begins}
 use Rattle.tars_model.specs.Declarations.{Declared, members_at}
 use Rattle.tars_model.specs.Names.{begins_word}
 use Rattle.tars_model.specs.Schemas.{IsSchema, MemberFits}

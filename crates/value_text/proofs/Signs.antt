@@ -3,7 +3,7 @@ use Rattle.std.proofs.Common.{◌≡◌, ◌≤◌, ℕ, suc, Bool, true, false,
 use Rattle.std.proofs.lemmas.Bool.{eqb-true}
 use Rattle.std.proofs.lemmas.Bool.Decides.{nat_tests}
 use Rattle.facts.proofs.ResultLaws.{bind_gave}
-use Rattle.idl_parse.specs.Bytes.{begins}
+use Rattle.idl_lex.specs.Bytes.{begins}
 use Rattle.value_text.specs.ReadSteps.{Read, unexpected, byte_at, sign_at, word_at, turn_after, turn_at}
 use Rattle.value_text.specs.Spelling.{past_gap}
 

@@ -4,8 +4,8 @@ use Rattle.std.specs.Char.{is_ascii_alphabetic}
 use Rattle.canonical_text.specs.Canonical.{truth_word}
 use Rattle.facts.specs.ResultSteps.{◌>>=◌}
 use Rattle.facts.proofs.ResultLaws.{bind_gave}
-use Rattle.idl_parse.specs.Bytes.{begins, is_word_byte}
-use Rattle.idl_parse.proofs.Lexing.Words.RunLaws.{take_is_run, drop_is_after}
+use Rattle.idl_lex.specs.Bytes.{begins, is_word_byte}
+use Rattle.idl_lex.proofs.Lexing.Words.RunLaws.{take_is_run, drop_is_after}
 use Rattle.tars_model.specs.Declarations.{Declared, members_at, items_at}
 use Rattle.tars_model.specs.Types.{TyLayer}
 use Rattle.tars_model.specs.Values.{is_byte, is_number_of}

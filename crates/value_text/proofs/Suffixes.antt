@@ -2,9 +2,9 @@
 use Rattle.std.proofs.Common.{◌≡◌, ◌-◌, ℕ, suc, Bool, true, false, ◌==◌, ◌||◌, ℤ, cond, List, [], ◌∷◌, ◌++◌, length, drop, refl, sym, ap, ◌∙◌, subst, arith, append_assoc, length-append}
 use Rattle.std.proofs.Math.Seq.{drop-append_seam}
 use Rattle.canonical_text.specs.Canonical.{truth_word}
-use Rattle.idl_parse.specs.Bytes.{is_word_byte}
-use Rattle.idl_parse.specs.LexSteps.{run, after_run}
-use Rattle.idl_parse.proofs.Lexing.Words.RunLaws.{run_whole}
+use Rattle.idl_lex.specs.Bytes.{is_word_byte}
+use Rattle.idl_lex.specs.LexSteps.{run, after_run}
+use Rattle.idl_lex.proofs.Lexing.Words.RunLaws.{run_whole}
 use Rattle.tars_model.specs.Declarations.{Declared}
 use Rattle.tars_model.specs.Types.{TyLayer}
 use Rattle.tars_model.specs.declared.member.Member.{Member}

@@ -1,6 +1,6 @@
 -- What a reader answers (docs/SCRIPTS.md, "Value text").
 use Rattle.std.specs.Prelude.{◌≡◌, ℕ, false, Result, Ok, Err, List}
-use Rattle.idl_parse.specs.Bytes.{begins, is_word_byte}
+use Rattle.idl_lex.specs.Bytes.{begins, is_word_byte}
 use Rattle.tars_model.specs.declared.value.Value.{Value}
 use Rattle.value_text.specs.declared.value_fault.ValueFault.{ValueFault}
 use Rattle.value_text.specs.declared.value_fault.ValueFault.TheVariants as faults

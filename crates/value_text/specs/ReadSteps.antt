@@ -4,9 +4,9 @@ use Rattle.std.specs.Prelude.{◌≡◌, ℕ, zero, suc, ◌+◌, ◌*◌, ◌-�
 use Rattle.std.specs.Char.{is_ascii_alphabetic, is_digit, digit_value}
 use Rattle.std.specs.List.{prefix_len}
 use Rattle.facts.specs.ResultSteps.{◌>>=◌}
-use Rattle.idl_parse.specs.Bytes.{begins, is_word_byte}
-use Rattle.idl_parse.specs.Forms.{is_in_range}
-use Rattle.idl_parse.specs.Meanings.{whole_number}
+use Rattle.idl_lex.specs.Bytes.{begins, is_word_byte}
+use Rattle.idl_lex.specs.Forms.{is_in_range}
+use Rattle.idl_lex.specs.Meanings.{whole_number}
 use Rattle.tars_model.specs.Declarations.{Declared, items_at}
 use Rattle.tars_model.specs.Types.{TyLayer}
 use Rattle.tars_model.specs.Values.{is_number_of}

@@ -3,7 +3,7 @@
 ghost use Rattle.std.specs.Prelude.{◌≡◌, ◌≤◌, length, max, Option, IfSome};
 ghost use Rattle.std.specs.List.{prefix_len};
 ghost use Rattle.std.specs.Char.{is_digit};
-ghost use Rattle.idl_parse.specs.Bytes.{begins, is_word_byte};
+ghost use Rattle.idl_lex.specs.Bytes.{begins, is_word_byte};
 ghost use Rattle.tars_model.specs.Values.{is_number_of};
 ghost use Rattle.tars_model.specs.declared.ty.Ty.{out-Ty};
 ghost use Rattle.value_text.specs.ReadSteps as spec;
@@ -13,7 +13,7 @@ ghost use Rattle.value_text.specs.ReadSteps.{Reads, ReadsAs};
 use crate::cursor::Cursor;
 use crate::halt::Halt;
 use crate::value_fault::ValueWhy;
-use idl_parse::whole_number;
+use idl_lex::whole_number;
 use tars_model::{Item, Schema, Ty, Value, fits};
 
 #[tactic(auto, unfolding(crate::specs::ReadSteps::truth_at))]

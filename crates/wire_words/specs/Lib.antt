@@ -1,3 +1,2 @@
 pub mod Tree
 pub mod Spelling
-pub mod Packets

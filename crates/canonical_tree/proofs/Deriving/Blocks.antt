@@ -12,9 +12,9 @@ use Rattle.canonical_text.specs.Canonical.{decl_home, key_home, struct_home}
 use Rattle.idl_parse.specs.Grammar as grammar
 use Rattle.idl_parse.specs.Grammar.{EntryOf, Ident, Mark, Word}
 use Rattle.idl_parse.specs.Rules.{Rel, Gives, ◌⟫◌, Many, more}
-use Rattle.idl_parse.specs.declared.keyword.Keyword.TheVariants as words
-use Rattle.idl_parse.specs.declared.sign.Sign.TheVariants as signs
-use Rattle.idl_parse.specs.declared.token.Token.{Token}
+use Rattle.idl_lex.specs.declared.keyword.Keyword.TheVariants as words
+use Rattle.idl_lex.specs.declared.sign.Sign.TheVariants as signs
+use Rattle.idl_lex.specs.declared.token.Token.{Token}
 use Rattle.idl_parse.specs.declared.tree.decl.DeclTree.{DeclTree}
 use Rattle.idl_parse.specs.declared.tree.module.Entry.{Entry}
 use Rattle.idl_parse.specs.declared.tree.module.Entry.TheVariants as entries

@@ -16,10 +16,10 @@ use Rattle.tars_model.specs.declared.struct_desc.StructDesc.{StructDesc}
 use Rattle.idl_parse.specs.Grammar as grammar
 use Rattle.idl_parse.specs.Grammar.{Block, Ident, Mark, Word}
 use Rattle.idl_parse.specs.Rules.{Rel, ◌⟫◌}
-use Rattle.idl_parse.specs.declared.keyword.Keyword.{Keyword}
-use Rattle.idl_parse.specs.declared.keyword.Keyword.TheVariants as words
-use Rattle.idl_parse.specs.declared.sign.Sign.TheVariants as signs
-use Rattle.idl_parse.specs.declared.span.Span.{Span}
+use Rattle.idl_lex.specs.declared.keyword.Keyword.{Keyword}
+use Rattle.idl_lex.specs.declared.keyword.Keyword.TheVariants as words
+use Rattle.idl_lex.specs.declared.sign.Sign.TheVariants as signs
+use Rattle.idl_lex.specs.declared.span.Span.{Span}
 use Rattle.canonical_tree.specs.Pieces.{Piece, word, mark, ident, space, line_end, indent, type_pieces, literal_pieces, member_pieces, item_pieces, func_pieces, opening_pieces, closing_pieces, struct_lines, enum_lines, const_line, key_line, interface_lines, struct_ident, pieces_of, decl_pieces}
 use Rattle.canonical_tree.specs.Says.{Pairwise, NameSays, MemberSays, FuncSays, DeclSays}
 use Rattle.canonical_tree.proofs.DeclFits.{IsPrefixOf, StructNamed, DeclFits, get_longer, all_at}

@@ -10,7 +10,7 @@ use Rattle.tars_model.specs.declared.ty.Ty.{Ty}
 use Rattle.idl_parse.specs.Grammar as grammar
 use Rattle.idl_parse.specs.Grammar.{Mark}
 use Rattle.idl_parse.specs.Rules.{◌⟫◌}
-use Rattle.idl_parse.specs.declared.sign.Sign.TheVariants as signs
+use Rattle.idl_lex.specs.declared.sign.Sign.TheVariants as signs
 use Rattle.canonical_tree.specs.Pieces.{Piece, mark, ident, space, line_end, deep_indent, param_pieces, params_pieces, return_pieces, func_pieces}
 use Rattle.canonical_tree.specs.Says.{Pairwise, ParamSays, ReturnSays, FuncSays}
 use Rattle.canonical_tree.proofs.DeclFits.{IsPrefixOf}

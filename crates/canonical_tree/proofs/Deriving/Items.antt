@@ -8,7 +8,7 @@ use Rattle.tars_model.specs.declared.enum_desc.Item.{Item}
 use Rattle.idl_parse.specs.Grammar as grammar
 use Rattle.idl_parse.specs.Grammar.{Mark}
 use Rattle.idl_parse.specs.Rules.{◌⟫◌}
-use Rattle.idl_parse.specs.declared.sign.Sign.TheVariants as signs
+use Rattle.idl_lex.specs.declared.sign.Sign.TheVariants as signs
 use Rattle.canonical_tree.specs.Pieces.{Piece, mark, ident, number, space, line_end, deep_indent, item_pieces}
 use Rattle.canonical_tree.specs.Says.{Pairwise, ItemSays}
 use Rattle.canonical_tree.proofs.Deriving.Kit.{Derives, done, past, one, spanned, part, regroup, given, present, in_left, in_right, many}

@@ -16,12 +16,12 @@ use Rattle.tars_model.specs.declared.value.Value.TheOpen as value
 use Rattle.tars_model.specs.declared.value.Value.TheVariants as values
 use Rattle.tars_model.specs.declared.value.Value.TheVariants.{outs-Bool, outs-Num, outs-Text, outs-Blob, outs-List, outs-Map, outs-Struct}
 use Rattle.canonical_text.specs.Canonical.{quoted, is_absent}
-use Rattle.idl_parse.proofs.CallerLemmas.{text_read}
+use Rattle.idl_lex.proofs.CallerLemmas.{text_read}
 use Rattle.idl_parse.specs.Grammar.{LiteralOf}
-use Rattle.idl_parse.specs.Meanings.{plain_text}
+use Rattle.idl_lex.specs.Meanings.{plain_text}
 use Rattle.idl_parse.specs.Words.{literal_of}
-use Rattle.idl_parse.specs.declared.keyword.Keyword.TheVariants as words
-use Rattle.idl_parse.specs.declared.kind.Kind.TheVariants as kinds
+use Rattle.idl_lex.specs.declared.keyword.Keyword.TheVariants as words
+use Rattle.idl_lex.specs.declared.kind.Kind.TheVariants as kinds
 use Rattle.idl_parse.specs.declared.tree.literal.LiteralWord.TheVariants as forms
 use Rattle.canonical_tree.specs.Pieces.{literal_piece, literal_pieces}
 use Rattle.canonical_tree.specs.Says.{LiteralSays}

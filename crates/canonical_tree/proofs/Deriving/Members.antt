@@ -12,10 +12,10 @@ use Rattle.idl_parse.specs.Grammar as grammar
 use Rattle.idl_parse.specs.Grammar.{Array, LiteralOf, Word, is_there, Mark, TypeOf, Typed}
 use Rattle.idl_parse.specs.Rules.{Rel, Gives, ◌⟫◌, Maybe, Means}
 use Rattle.idl_parse.specs.Words.{requirement_of}
-use Rattle.idl_parse.specs.declared.keyword.Keyword.TheVariants as words
-use Rattle.idl_parse.specs.declared.sign.Sign.TheVariants as signs
-use Rattle.idl_parse.specs.declared.span.Span.{Span}
-use Rattle.idl_parse.specs.declared.token.Token.{Token}
+use Rattle.idl_lex.specs.declared.keyword.Keyword.TheVariants as words
+use Rattle.idl_lex.specs.declared.sign.Sign.TheVariants as signs
+use Rattle.idl_lex.specs.declared.span.Span.{Span}
+use Rattle.idl_lex.specs.declared.token.Token.{Token}
 use Rattle.idl_parse.specs.declared.tree.member.Requirement.{Requirement}
 use Rattle.idl_parse.specs.declared.tree.member.Requirement.TheVariants.{Require, Optional}
 use Rattle.idl_parse.specs.declared.tree.type_tree.TypeTree.{TypeTree}

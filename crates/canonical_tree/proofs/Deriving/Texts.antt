@@ -6,10 +6,10 @@ use Rattle.std.specs.Char.{is_digit, digit_value}
 use Rattle.std.specs.List.{AllByRecursion}
 use Rattle.hex.specs.Hex.{encode_with, upper_digits}
 use Rattle.canonical_text.specs.Canonical.{byte_text, quoted}
-use Rattle.idl_parse.specs.Bytes.{is_plain, is_escaped, escaped}
-use Rattle.idl_parse.specs.Texts.{UnitSpells, UnitsSpell, TextSpells}
-use Rattle.idl_parse.specs.Texts.UnitSpells.{plain, short, hex}
-use Rattle.idl_parse.specs.Texts.UnitsSpell.{none, more}
+use Rattle.idl_lex.specs.Bytes.{is_plain, is_escaped, escaped}
+use Rattle.idl_lex.specs.Texts.{UnitSpells, UnitsSpell, TextSpells}
+use Rattle.idl_lex.specs.Texts.UnitSpells.{plain, short, hex}
+use Rattle.idl_lex.specs.Texts.UnitsSpell.{none, more}
 
 -- each number below passes
 abbrev all_below : ℕ → (ℕ → Bool) → Bool

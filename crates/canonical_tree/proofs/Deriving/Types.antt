@@ -15,10 +15,10 @@ use Rattle.tars_model.specs.declared.ty.Ty.{Ty, out-Ty, map-Ty, fold_out-Ty}
 use Rattle.tars_model.specs.declared.ty.Ty.TheOpen as ty
 use Rattle.idl_parse.specs.Grammar.{Scoped, TypeOf}
 use Rattle.idl_parse.specs.Words.{basic_of, unsigned_of}
-use Rattle.idl_parse.specs.declared.keyword.Keyword.{Keyword}
-use Rattle.idl_parse.specs.declared.keyword.Keyword.TheVariants as words
-use Rattle.idl_parse.specs.declared.kind.Kind.TheVariants as kinds
-use Rattle.idl_parse.specs.declared.sign.Sign.TheVariants as signs
+use Rattle.idl_lex.specs.declared.keyword.Keyword.{Keyword}
+use Rattle.idl_lex.specs.declared.keyword.Keyword.TheVariants as words
+use Rattle.idl_lex.specs.declared.kind.Kind.TheVariants as kinds
+use Rattle.idl_lex.specs.declared.sign.Sign.TheVariants as signs
 use Rattle.idl_parse.specs.declared.tree.type_tree.BasicType.{BasicType}
 use Rattle.idl_parse.specs.declared.tree.type_tree.BasicType.TheVariants as basics
 use Rattle.canonical_tree.specs.Pieces.{Piece, word, mark, space, name_pieces, type_pieces, type_piece_layer}

@@ -10,16 +10,16 @@ use Rattle.std.specs.List.{AllByRecursion, list_all}
 use Rattle.std.specs.Str.Parse.{AllDigits}
 use Rattle.tars_model.specs.Names.{keywords, begins_word, IsName}
 use Rattle.tars_model.specs.Values.{is_signed}
-use Rattle.idl_parse.specs.Bytes.{begins}
-use Rattle.idl_parse.specs.Forms.{IsForm, IsWhole, magnitude}
-use Rattle.idl_parse.specs.Meanings.{negative, whole_number}
-use Rattle.idl_parse.specs.Spellings.{keyword_text}
+use Rattle.idl_lex.specs.Bytes.{begins}
+use Rattle.idl_lex.specs.Forms.{IsForm, IsWhole, magnitude}
+use Rattle.idl_lex.specs.Meanings.{negative, whole_number}
+use Rattle.idl_lex.specs.Spellings.{keyword_text}
 use Rattle.idl_parse.specs.TreeSpans.{StandsAt}
-use Rattle.idl_parse.specs.declared.keyword.Keyword.{Keyword}
-use Rattle.idl_parse.specs.declared.keyword.Keyword.TheVariants as words
-use Rattle.idl_parse.specs.declared.kind.Kind.{Kind}
-use Rattle.idl_parse.specs.declared.kind.Kind.TheVariants as kinds
-use Rattle.idl_parse.specs.declared.span.Span.{Span}
+use Rattle.idl_lex.specs.declared.keyword.Keyword.{Keyword}
+use Rattle.idl_lex.specs.declared.keyword.Keyword.TheVariants as words
+use Rattle.idl_lex.specs.declared.kind.Kind.{Kind}
+use Rattle.idl_lex.specs.declared.kind.Kind.TheVariants as kinds
+use Rattle.idl_lex.specs.declared.span.Span.{Span}
 use Rattle.canonical_tree.specs.Says.{NameSays, NumberSays}
 use Rattle.canonical_tree.proofs.Deriving.Kit.{WordAt}
 

@@ -9,9 +9,9 @@ use Rattle.tars_model.specs.Schemas.{NamesMember, IsSchema}
 use Rattle.tars_model.specs.declared.decl.Decl.{Decl}
 use Rattle.tars_model.specs.declared.decl.Decl.TheVariants as decl
 use Rattle.canonical_text.specs.Canonical.{decl_home, canonical}
-use Rattle.idl_parse.specs.Tokens.{Tokens}
-use Rattle.idl_parse.specs.declared.keyword.Keyword.TheVariants as words
-use Rattle.idl_parse.specs.declared.sign.Sign.TheVariants as signs
+use Rattle.idl_lex.specs.Tokens.{Tokens}
+use Rattle.idl_lex.specs.declared.keyword.Keyword.TheVariants as words
+use Rattle.idl_lex.specs.declared.sign.Sign.TheVariants as signs
 use Rattle.canonical_tree.specs.Pieces.{Piece, spell, tokens_at, mark, ident, line_end, space, decl_pieces, block_start_pieces, block_close, block_end_pieces, turn_pieces, block_pieces, pieces}
 use Rattle.canonical_tree.proofs.DeclFits.{DeclFits, StructNamed, decl_fits, structs_named, enums_named, all_at}
 use Rattle.canonical_tree.proofs.Deriving.Blocks.{home_named}

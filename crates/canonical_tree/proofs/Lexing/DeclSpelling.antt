@@ -18,10 +18,10 @@ use Rattle.tars_model.specs.declared.key_desc.KeyDesc.{KeyDesc}
 use Rattle.tars_model.specs.declared.struct_desc.StructDesc.{StructDesc}
 use Rattle.tars_model.specs.declared.ty.Ty.{Ty}
 use Rattle.canonical_text.specs.Canonical.{type_text, literal_text, member_line, item_line, param_text, params_text, return_text, func_line, opening, closing, struct_text, enum_text, const_text, bare_name, key_text, interface_text, decl_text, decl_home, block_start, block_end, turn, blocks, canonical}
-use Rattle.idl_parse.specs.Spellings.{keyword_text}
-use Rattle.idl_parse.specs.declared.keyword.Keyword.{Keyword}
-use Rattle.idl_parse.specs.declared.keyword.Keyword.TheVariants as words
-use Rattle.idl_parse.specs.declared.sign.Sign.TheVariants as signs
+use Rattle.idl_lex.specs.Spellings.{keyword_text}
+use Rattle.idl_lex.specs.declared.keyword.Keyword.{Keyword}
+use Rattle.idl_lex.specs.declared.keyword.Keyword.TheVariants as words
+use Rattle.idl_lex.specs.declared.sign.Sign.TheVariants as signs
 use Rattle.canonical_tree.specs.Pieces.{Piece, spell, mark, space, line_end, ident, type_pieces, literal_pieces, member_pieces, item_pieces, param_pieces, params_pieces, return_pieces, func_pieces, opening_pieces, closing_pieces, struct_lines, enum_lines, const_line, struct_ident, key_line, interface_lines, decl_pieces, block_start_pieces, block_close, block_end_pieces, turn_pieces, block_pieces, pieces}
 use Rattle.canonical_tree.proofs.DeclFits.{DeclFits, decl_fits}
 use Rattle.canonical_tree.proofs.Lists.{each_so, each_of}

@@ -3,13 +3,13 @@ use Rattle.std.proofs.Common.{◌≡◌, ◌+◌, ◌-◌, ℕ, true, List, [], 
 use Rattle.std.proofs.lemmas.Bool.{and_parts}
 use Rattle.std.proofs.lemmas.List.{append-nil}
 use Rattle.std.specs.List.{list_all}
-use Rattle.idl_parse.specs.Bytes.{is_white}
-use Rattle.idl_parse.specs.Tokens.{AreLexemes, token_between}
-use Rattle.idl_parse.specs.Tokens.AreLexemes.{none, then_trivia, then_token}
-use Rattle.idl_parse.specs.Tokens.IsLexeme.{trivia}
-use Rattle.idl_parse.specs.Trivia.IsTrivia.{white}
-use Rattle.idl_parse.specs.declared.kind.Kind.{Kind}
-use Rattle.idl_parse.specs.declared.token.Token.{Token}
+use Rattle.idl_lex.specs.Bytes.{is_white}
+use Rattle.idl_lex.specs.Tokens.{AreLexemes, token_between}
+use Rattle.idl_lex.specs.Tokens.AreLexemes.{none, then_trivia, then_token}
+use Rattle.idl_lex.specs.Tokens.IsLexeme.{trivia}
+use Rattle.idl_lex.specs.Trivia.IsTrivia.{white}
+use Rattle.idl_lex.specs.declared.kind.Kind.{Kind}
+use Rattle.idl_lex.specs.declared.token.Token.{Token}
 use Rattle.canonical_tree.specs.Pieces.{Piece, token, blank, spell, tokens_at}
 use Rattle.canonical_tree.proofs.Lexing.Lexemes.{EndsAfter, Lexes}
 

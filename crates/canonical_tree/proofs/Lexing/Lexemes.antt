@@ -10,23 +10,23 @@ use Rattle.std.specs.Fmt.{signed_decimal}
 use Rattle.std.specs.List.{list_all}
 use Rattle.std.specs.Str.Parse.{digits_value}
 use Rattle.tars_model.specs.Names.{IsName}
-use Rattle.idl_parse.specs.Bytes.{begins, is_word_byte, is_letter_or_low}
-use Rattle.idl_parse.specs.Forms.{IsWord}
-use Rattle.idl_parse.specs.LexSteps.{keyword_of, kind_of, run, after_run, word_at, is_at_most, decimal_at, begins_part, unsigned_at, number_at, sign_of, sign_at, token_at, sound_candidate}
-use Rattle.idl_parse.specs.Spellings.{keyword_text, sign_text}
-use Rattle.idl_parse.specs.Texts.{TextSpells}
-use Rattle.idl_parse.specs.Tokens.{IsLexeme}
-use Rattle.idl_parse.specs.declared.keyword.Keyword.{Keyword}
-use Rattle.idl_parse.specs.declared.kind.Kind.{Kind}
-use Rattle.idl_parse.specs.declared.kind.Kind.TheVariants as kinds
-use Rattle.idl_parse.specs.declared.sign.Sign.{Sign}
-use Rattle.idl_parse.specs.declared.sign.Sign.TheVariants as signs
-use Rattle.idl_parse.proofs.CallerLemmas.{keyword_means, keyword_found}
-use Rattle.idl_parse.proofs.Lexing.Lexemes.LexemeLaws.{found_lexeme, text_lexeme}
-use Rattle.idl_parse.proofs.Lexing.Numbers.NumberLaws.{is_decimal, digit_no_letter, digit_is_not, no_hexadecimal}
-use Rattle.idl_parse.proofs.Lexing.Strings.TextLaws.{units_split}
-use Rattle.idl_parse.proofs.Lexing.Words.RunLaws.{run_over, after_over}
-use Rattle.idl_parse.proofs.Lexing.Words.WordLaws.{keyword_is_word}
+use Rattle.idl_lex.specs.Bytes.{begins, is_word_byte, is_letter_or_low}
+use Rattle.idl_lex.specs.Forms.{IsWord}
+use Rattle.idl_lex.specs.LexSteps.{keyword_of, kind_of, run, after_run, word_at, is_at_most, decimal_at, begins_part, unsigned_at, number_at, sign_of, sign_at, token_at, sound_candidate}
+use Rattle.idl_lex.specs.Spellings.{keyword_text, sign_text}
+use Rattle.idl_lex.specs.Texts.{TextSpells}
+use Rattle.idl_lex.specs.Tokens.{IsLexeme}
+use Rattle.idl_lex.specs.declared.keyword.Keyword.{Keyword}
+use Rattle.idl_lex.specs.declared.kind.Kind.{Kind}
+use Rattle.idl_lex.specs.declared.kind.Kind.TheVariants as kinds
+use Rattle.idl_lex.specs.declared.sign.Sign.{Sign}
+use Rattle.idl_lex.specs.declared.sign.Sign.TheVariants as signs
+use Rattle.idl_lex.proofs.CallerLemmas.{keyword_means, keyword_found}
+use Rattle.idl_lex.proofs.Lexing.Lexemes.LexemeLaws.{found_lexeme, text_lexeme}
+use Rattle.idl_lex.proofs.Lexing.Numbers.NumberLaws.{is_decimal, digit_no_letter, digit_is_not, no_hexadecimal}
+use Rattle.idl_lex.proofs.Lexing.Strings.TextLaws.{units_split}
+use Rattle.idl_lex.proofs.Lexing.Words.RunLaws.{run_over, after_over}
+use Rattle.idl_lex.proofs.Lexing.Words.WordLaws.{keyword_is_word}
 use Rattle.canonical_tree.proofs.Deriving.Words.{name_form, all_digits, pass_digits, IsLong}
 
 -- a byte that ends a word or number before it

@@ -19,9 +19,9 @@ use Rattle.tars_model.specs.declared.struct_desc.StructDesc.{StructDesc}
 use Rattle.tars_model.specs.declared.ty.Ty.{Ty, out-Ty}
 use Rattle.tars_model.specs.declared.value.Value.{out-Value}
 use Rattle.canonical_text.specs.Canonical.{is_absent}
-use Rattle.idl_parse.specs.declared.keyword.Keyword.{Keyword}
-use Rattle.idl_parse.specs.declared.keyword.Keyword.TheVariants as words
-use Rattle.idl_parse.specs.declared.sign.Sign.TheVariants as signs
+use Rattle.idl_lex.specs.declared.keyword.Keyword.{Keyword}
+use Rattle.idl_lex.specs.declared.keyword.Keyword.TheVariants as words
+use Rattle.idl_lex.specs.declared.sign.Sign.TheVariants as signs
 use Rattle.canonical_tree.specs.Pieces.{Piece, mark, ident, number, space, line_end, indent, type_pieces, literal_pieces, requirement_piece, default_pieces, member_pieces, item_pieces, direction_pieces, param_pieces, params_pieces, return_pieces, func_pieces, opening_pieces, closing_pieces, struct_lines, enum_lines, const_line, key_line, interface_lines, pieces}
 use Rattle.canonical_tree.proofs.DeclFits.{IsPrefixOf, StructNamed, all_at}
 use Rattle.canonical_tree.proofs.Deriving.Literals.{literal_has, written_has, int_long}

@@ -13,11 +13,11 @@ use Rattle.tars_model.specs.declared.value.Pair.{Pair}
 use Rattle.tars_model.specs.declared.value.Value.{Value, out-Value}
 use Rattle.tars_model.specs.declared.value.Value.TheOpen as value
 use Rattle.canonical_text.specs.Canonical.{quoted}
-use Rattle.idl_parse.specs.Bytes.{begins}
-use Rattle.idl_parse.specs.declared.keyword.Keyword.{Keyword}
-use Rattle.idl_parse.specs.declared.keyword.Keyword.TheVariants as words
-use Rattle.idl_parse.specs.declared.sign.Sign.{Sign}
-use Rattle.idl_parse.specs.declared.sign.Sign.TheVariants as signs
+use Rattle.idl_lex.specs.Bytes.{begins}
+use Rattle.idl_lex.specs.declared.keyword.Keyword.{Keyword}
+use Rattle.idl_lex.specs.declared.keyword.Keyword.TheVariants as words
+use Rattle.idl_lex.specs.declared.sign.Sign.{Sign}
+use Rattle.idl_lex.specs.declared.sign.Sign.TheVariants as signs
 use Rattle.canonical_tree.specs.Pieces.{Piece, spell, word, mark, ident, number, space, name_pieces, type_pieces, literal_piece, literal_pieces}
 use Rattle.canonical_tree.proofs.DeclFits.{IsPrefixOf, StructNamed, EnumNamed, all_at}
 use Rattle.canonical_tree.proofs.Deriving.Literals.{HasLiteral}

@@ -18,7 +18,7 @@ use Rattle.tars_model.specs.declared.value.Pair.{Pair}
 use Rattle.tars_model.specs.declared.value.Value.{Value, out-Value}
 use Rattle.tars_model.specs.declared.value.Value.TheOpen as value
 use Rattle.canonical_text.specs.Canonical.{name_text, struct_name, enum_name, type_layer, type_text, quoted, literal_layer, literal_text, is_absent, requirement_word, default_text, member_line, item_line, direction_word, param_text}
-use Rattle.idl_parse.specs.declared.sign.Sign.TheVariants as signs
+use Rattle.idl_lex.specs.declared.sign.Sign.TheVariants as signs
 use Rattle.canonical_tree.proofs.Deriving.Types.{pieces_at, vector_pieces, map_pieces}
 use Rattle.canonical_tree.specs.Pieces.{Piece, line_end, bytes_of, spell, name_pieces, struct_pieces, enum_pieces, type_pieces, literal_piece, literal_pieces, requirement_piece, default_pieces, member_pieces, item_pieces, direction_pieces, param_pieces, pieces, mark, space, ident}
 

@@ -6,9 +6,9 @@ use Rattle.idl_parse.specs.Grammar.{Block, Listed, Member, Struct, Item, Items, 
 use Rattle.idl_parse.specs.TreeSpans.{IfThere, TypeIn, MemberIn, ItemIn, ParamIn, FuncIn, DeclIn, EntryIn}
 use Rattle.idl_parse.specs.Rules.{Rel, Many}
 use Rattle.idl_parse.specs.Words.{requirement_of}
-use Rattle.idl_parse.specs.declared.keyword.Keyword.TheVariants as words
-use Rattle.idl_parse.specs.declared.kind.Kind.TheVariants as kinds
-use Rattle.idl_parse.specs.declared.sign.Sign.TheVariants.{OpenBrace, CloseBrace, OpenParen, CloseParen, OpenBracket, CloseBracket, Comma, Semicolon, Equals}
+use Rattle.idl_lex.specs.declared.keyword.Keyword.TheVariants as words
+use Rattle.idl_lex.specs.declared.kind.Kind.TheVariants as kinds
+use Rattle.idl_lex.specs.declared.sign.Sign.TheVariants.{OpenBrace, CloseBrace, OpenParen, CloseParen, OpenBracket, CloseBracket, Comma, Semicolon, Equals}
 use Rattle.idl_parse.proofs.Parsing.Deriving.Literals.{requirements_flat}
 use Rattle.idl_parse.proofs.Trees.Walks.{Walks, after, gives, one, means, either, maybe, many, saying, spanned}
 use Rattle.idl_parse.proofs.Trees.TypeWalks.{array, literal, types, typed}

@@ -3,7 +3,7 @@ use Rattle.std.proofs.Common.{◌≡◌, ℕ, zero, suc, ◌+◌, ◌<◌, ◌�
 use Rattle.std.proofs.lemmas.List.{take_more}
 use Rattle.std.specs.Prelude.{slice_get}
 use Rattle.idl_parse.specs.Files.{SpellsAt, include_spans, AllSpell}
-use Rattle.idl_parse.specs.declared.span.Span.{Span}
+use Rattle.idl_lex.specs.declared.span.Span.{Span}
 use Rattle.idl_parse.specs.declared.tree.module.Entry.{Entry}
 use Rattle.idl_parse.specs.declared.tree.module.Entry.TheVariants.{Include, Module}
 

@@ -6,15 +6,15 @@ use Rattle.idl_parse.specs.Depth.{opened, Shallow}
 use Rattle.idl_parse.specs.Grammar.{EntryOf, IsFile}
 use Rattle.idl_parse.specs.TreeSpans.{EntryIn}
 use Rattle.idl_parse.specs.Rules.{Many, none, more}
-use Rattle.idl_parse.specs.Spans.{AreSpans}
-use Rattle.idl_parse.specs.Tokens.{Tokens}
-use Rattle.idl_parse.specs.declared.token.Token.{Token}
+use Rattle.idl_lex.specs.Spans.{AreSpans}
+use Rattle.idl_lex.specs.Tokens.{Tokens}
+use Rattle.idl_lex.specs.declared.token.Token.{Token}
 use Rattle.idl_parse.specs.declared.tree.module.Entry.{Entry}
 use Rattle.idl_parse.proofs.Parsing.Deriving.FileLaws.{nothing_follows}
 use Rattle.idl_parse.proofs.Trees.FileWalks.{entries}
 use Rattle.idl_parse.proofs.Parsing.Combining.Heads.{opened_append, shallow_append}
 use Rattle.idl_parse.proofs.Parsing.Deriving.Productions.{entry}
-use Rattle.idl_parse.proofs.Lexing.Lexemes.SpanLaws.{spans_are}
+use Rattle.idl_lex.proofs.Lexing.Lexemes.SpanLaws.{spans_are}
 use Rattle.idl_parse.proofs.Trees.Walks.{TokensIn}
 
 record Passed (n : ℕ) (ts rest : List Token) : Type 0 where

@@ -8,7 +8,7 @@ use Rattle.idl_parse.specs.Grammar.{VectorOf, MapOf, TypeOf, Typed, Block, Liste
 use Rattle.idl_parse.specs.Nesting.{nesting_layer, tree_nesting, IsNested, MemberNests, ParamNests, FuncNests, DeclNests, EntryNests}
 use Rattle.idl_parse.specs.Rules.{Rel, Gives, ◌⟫◌, Either, Many, none, more}
 use Rattle.idl_parse.specs.TreeSpans.{IfThere}
-use Rattle.idl_parse.specs.declared.token.Token.{Token}
+use Rattle.idl_lex.specs.declared.token.Token.{Token}
 use Rattle.idl_parse.specs.declared.tree.module.Entry.{Entry}
 use Rattle.idl_parse.specs.declared.tree.type_tree.BasicType.{BasicType}
 use Rattle.idl_parse.specs.declared.tree.type_tree.ScopedName.{ScopedName}

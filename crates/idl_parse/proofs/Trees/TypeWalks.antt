@@ -4,13 +4,14 @@ use Rattle.idl_parse.specs.Depth.{Shallow}
 use Rattle.idl_parse.specs.Grammar.{Scoped, Array, LiteralOf, VectorOf, MapOf, UnsignedOf, NamedOf, BasicOf, TypeOf, Typed}
 use Rattle.idl_parse.specs.TreeSpans.{StandsAt, IfThere, NameIn, ScopedIn, kind_of, LiteralIn, TypeIn, basic, named, vector, map, TypedIn, ArrayIn}
 use Rattle.idl_parse.specs.Rules.{Rel, Either}
-use Rattle.idl_parse.specs.Words.{span, basic_of, unsigned_of, literal_of, scoped_name}
-use Rattle.idl_parse.specs.declared.keyword.Keyword.TheVariants as words
-use Rattle.idl_parse.specs.declared.kind.Kind.{Kind}
-use Rattle.idl_parse.specs.declared.kind.Kind.TheVariants as kinds
-use Rattle.idl_parse.specs.declared.sign.Sign.TheVariants.{OpenBracket, CloseBracket, Less, Greater, Comma, PathSep}
-use Rattle.idl_parse.specs.declared.span.Span.{Span}
-use Rattle.idl_parse.specs.declared.token.Token.{Token}
+use Rattle.idl_lex.specs.Spans.{span}
+use Rattle.idl_parse.specs.Words.{basic_of, unsigned_of, literal_of, scoped_name}
+use Rattle.idl_lex.specs.declared.keyword.Keyword.TheVariants as words
+use Rattle.idl_lex.specs.declared.kind.Kind.{Kind}
+use Rattle.idl_lex.specs.declared.kind.Kind.TheVariants as kinds
+use Rattle.idl_lex.specs.declared.sign.Sign.TheVariants.{OpenBracket, CloseBracket, Less, Greater, Comma, PathSep}
+use Rattle.idl_lex.specs.declared.span.Span.{Span}
+use Rattle.idl_lex.specs.declared.token.Token.{Token}
 use Rattle.idl_parse.specs.declared.tree.literal.LiteralWord.{LiteralWord}
 use Rattle.idl_parse.specs.declared.tree.type_tree.TypeTree.{TypeTree}
 use Rattle.idl_parse.proofs.Parsing.Deriving.Literals.{literals_flat, basics_flat, unsigned_flat}

@@ -7,9 +7,9 @@ use Rattle.idl_parse.specs.Depth.{following, opened, Shallow}
 use Rattle.idl_parse.specs.TreeSpans.{StandsAt, IfThere}
 use Rattle.idl_parse.specs.Grammar.{SpanOf}
 use Rattle.idl_parse.specs.Rules.{Rel, Gives, ◌⟫◌, One, Means, Either, Maybe, Many, none, more}
-use Rattle.idl_parse.specs.Words.{span}
-use Rattle.idl_parse.specs.declared.kind.Kind.{Kind}
-use Rattle.idl_parse.specs.declared.token.Token.{Token}
+use Rattle.idl_lex.specs.Spans.{span}
+use Rattle.idl_lex.specs.declared.kind.Kind.{Kind}
+use Rattle.idl_lex.specs.declared.token.Token.{Token}
 use Rattle.idl_parse.proofs.Parsing.Combining.Heads.{opened_append}
 
 -- a token stands where it says

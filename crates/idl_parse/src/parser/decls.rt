@@ -9,11 +9,8 @@ use super::members::members;
 use super::names::literal;
 use super::tokens::Tokens;
 use super::types::typed;
-use crate::keyword::Keyword;
-use crate::kind::Kind;
-use crate::sign::Sign;
-use crate::span::Span;
 use crate::tree::{ConstTree, DeclTree, EnumTree, InterfaceTree, KeyTree, StructTree};
+use idl_lex::{Keyword, Kind, Sign, Span};
 use std::alloc::Global;
 use tars_model::List;
 

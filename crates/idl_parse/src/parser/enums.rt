@@ -4,9 +4,8 @@ ghost use Rattle.idl_parse.specs.ReadSteps.{Reads, item_at, item_comma_at};
 use super::halt::Halt;
 use super::items::Item;
 use super::tokens::Tokens;
-use crate::kind::Kind;
-use crate::sign::Sign;
 use crate::tree::EnumItem;
+use idl_lex::{Kind, Sign};
 use std::alloc::Global;
 
 /// `ident [ = number ]`

@@ -5,10 +5,8 @@ ghost use Rattle.idl_parse.specs.ReadSteps.{Reads, ReadsAll, module_at, entry_at
 use super::decls::{decls, heading};
 use super::halt::Halt;
 use super::tokens::Tokens;
-use crate::keyword::Keyword;
-use crate::kind::Kind;
-use crate::sign::Sign;
 use crate::tree::{Entry, ModuleTree};
+use idl_lex::{Keyword, Kind, Sign};
 use std::alloc::Global;
 use tars_model::List;
 

@@ -6,10 +6,8 @@ use super::halt::Halt;
 use super::items::{Item, until, until_after};
 use super::tokens::Tokens;
 use super::types::{MAX_NESTING, type_tree, typed};
-use crate::keyword::Keyword;
-use crate::kind::Kind;
-use crate::sign::Sign;
 use crate::tree::{FuncTree, ParamTree, TypeTree};
+use idl_lex::{Keyword, Kind, Sign};
 use std::alloc::Global;
 use tars_model::List;
 

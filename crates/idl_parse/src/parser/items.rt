@@ -2,12 +2,11 @@
 
 ghost use Rattle.std.specs.Prelude.{◌≡◌, List as Listed};
 ghost use Rattle.idl_parse.specs.ReadSteps.{Read, Reads, Shrinks, until_at, with_prefix};
-ghost use Rattle.idl_parse.specs.declared.token.Token.{Token as Found};
+ghost use Rattle.idl_lex.specs.declared.token.Token.{Token as Found};
 
 use super::halt::Halt;
 use super::tokens::Tokens;
-use crate::kind::Kind;
-use crate::sign::Sign;
+use idl_lex::{Kind, Sign};
 use std::alloc::Global;
 use tars_model::List;
 

@@ -8,11 +8,8 @@ use super::items::{Item, until};
 use super::names::{array, literal};
 use super::tokens::Tokens;
 use super::types::typed;
-use crate::keyword::Keyword;
-use crate::kind::Kind;
-use crate::sign::Sign;
-use crate::token::Token;
 use crate::tree::{ArrayLen, Literal, MemberTree, Requirement};
+use idl_lex::{Keyword, Kind, Sign, Token};
 use std::alloc::Global;
 use tars_model::List;
 

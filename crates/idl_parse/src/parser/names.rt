@@ -4,11 +4,8 @@ ghost use Rattle.idl_parse.specs.Words.{literal_of, scoped_name};
 
 use super::halt::Halt;
 use super::tokens::Tokens;
-use crate::keyword::Keyword;
-use crate::kind::Kind;
-use crate::sign::Sign;
-use crate::span::Span;
 use crate::tree::{ArrayLen, Literal, LiteralWord, ScopedName};
+use idl_lex::{Keyword, Kind, Sign, Span};
 
 /// The name that stands alone, or after `::`.
 fn scoped_name(first: Span, second: Option<Span>) -> ScopedName

@@ -5,10 +5,8 @@ ghost use Rattle.idl_parse.specs.declared.parse_fault.ParseWhy.TheVariants.{Unex
 ghost use Rattle.idl_parse.specs.declared.parser.halt.Halt.TheVariants.{Grammar as grammar};
 
 use super::halt::Halt;
-use crate::kind::Kind;
 use crate::parse_fault::ParseWhy;
-use crate::span::Span;
-use crate::token::Token;
+use idl_lex::{Kind, Span, Token};
 use std::marker::Model;
 
 /// The tokens that are left to read.
@@ -19,7 +17,7 @@ pub(crate) struct Tokens<'a> {
 
 impl<'a> Model for Tokens<'a> {
     ghost use Rattle.std.specs.Prelude.{List};
-    ghost use Rattle.idl_parse.specs.declared.token.Token.{Token as Found};
+    ghost use Rattle.idl_lex.specs.declared.token.Token.{Token as Found};
 
     ghost Value = { List Found };
 

@@ -6,11 +6,9 @@ ghost use Rattle.idl_parse.specs.Words.{basic_of, unsigned_of};
 use super::halt::Halt;
 use super::names::scoped;
 use super::tokens::Tokens;
-use crate::keyword::Keyword;
-use crate::kind::Kind;
 use crate::parse_fault::ParseWhy;
-use crate::sign::Sign;
 use crate::tree::{BasicType, TypeTree, TypedName};
+use idl_lex::{Keyword, Kind, Sign};
 use std::alloc::Global;
 use tars_model::Boxed;
 

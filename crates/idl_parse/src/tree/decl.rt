@@ -1,5 +1,5 @@
 use super::{FuncTree, Literal, MemberTree, TypedName};
-use crate::span::Span;
+use idl_lex::Span;
 use tars_model::List;
 
 /// A struct, its members in text order.

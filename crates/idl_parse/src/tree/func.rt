@@ -1,5 +1,5 @@
 use super::{TypeTree, TypedName};
-use crate::span::Span;
+use idl_lex::Span;
 use tars_model::List;
 
 /// A parameter. `routekey` is where that word stands.

@@ -1,5 +1,5 @@
 use super::ScopedName;
-use crate::span::Span;
+use idl_lex::Span;
 
 /// The literals of one token.
 #[derive(Clone, Copy, Debug, PartialEq, Eq)]

@@ -1,5 +1,5 @@
 use super::{Literal, TypedName};
-use crate::span::Span;
+use idl_lex::Span;
 
 /// `[length]` after a member's name. `at` is where the `[` stands.
 #[derive(Clone, Copy, PartialEq, Eq)]

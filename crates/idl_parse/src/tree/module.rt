@@ -1,5 +1,5 @@
 use super::DeclTree;
-use crate::span::Span;
+use idl_lex::Span;
 use tars_model::List;
 
 /// A block of a module, its declarations in text order.

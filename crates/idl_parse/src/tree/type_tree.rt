@@ -1,4 +1,4 @@
-use crate::span::Span;
+use idl_lex::Span;
 use tars_model::Boxed;
 
 /// The types that are words.

@@ -2,7 +2,7 @@
 use Rattle.std.proofs.Common.{◌≡◌, ◌≤◌, ◌<◌, ℕ, zero, suc, ℤ, Bool, true, false, ◌==◌, List, [], ◌∷◌, ◌++◌, length, take, drop, map, Some, None, Ok, Err, refl, sym, ap, ◌∙◌, subst, arith, length-append}
 use Rattle.std.proofs.lemmas.List.{take-append-drop}
 use Rattle.std.specs.List.{Contains, insert}
-use Rattle.idl_parse.specs.Bytes.{begins}
+use Rattle.idl_lex.specs.Bytes.{begins}
 use Rattle.tars_model.specs.Declarations.{Declared, members_at}
 use Rattle.tars_model.specs.Types.{TyLayer}
 use Rattle.tars_model.specs.Values.{Key, key_of, entry_key, is_number_of, is_signed}

@@ -4,9 +4,9 @@ use Rattle.std.proofs.lemmas.List.{take-append-drop}
 use Rattle.std.specs.Char.{is_ascii_alphabetic}
 use Rattle.std.specs.List.{insert}
 use Rattle.facts.specs.ResultSteps.{◌>>=◌}
-use Rattle.idl_parse.specs.Bytes.{begins}
-use Rattle.idl_parse.specs.Forms.{is_in_range}
-use Rattle.idl_parse.specs.Meanings.{whole_number}
+use Rattle.idl_lex.specs.Bytes.{begins}
+use Rattle.idl_lex.specs.Forms.{is_in_range}
+use Rattle.idl_lex.specs.Meanings.{whole_number}
 use Rattle.tars_model.specs.Declarations.{Declared, members_at, items_at}
 use Rattle.tars_model.specs.Types.{TyLayer}
 use Rattle.tars_model.specs.Values.{Key, key_of, entry_key, is_byte, is_number_of, is_signed}

@@ -1,6 +1,6 @@
 -- What is said of bytes and the rest after them, and is so of another rest that goes on as little.
 use Rattle.std.proofs.Common.{◌≡◌, ◌<◌, ◌==◌, ◌||◌, ℕ, Bool, true, false, cond, List, [], ◌∷◌, ◌++◌, length, refl, sym, ap, ◌∙◌, subst, arith, append_assoc}
-use Rattle.idl_parse.specs.Bytes.{begins, is_word_byte}
+use Rattle.idl_lex.specs.Bytes.{begins, is_word_byte}
 use Rattle.value_text.specs.Spelling.{past_gap}
 use Rattle.value_text.proofs.Signs.{past_gap_shorter}
 

@@ -4,9 +4,9 @@ use Rattle.std.proofs.lemmas.Bool.Decides.{nat_tests}
 use Rattle.std.specs.Char.{is_ascii_alphabetic}
 use Rattle.std.specs.Str.Parse.{digits_value}
 use Rattle.canonical_text.specs.Canonical.{truth_word}
-use Rattle.idl_parse.specs.Bytes.{begins, is_word_byte}
-use Rattle.idl_parse.specs.LexSteps.{run, after_run}
-use Rattle.idl_parse.proofs.Lexing.Words.RunLaws.{run_passes, run_whole}
+use Rattle.idl_lex.specs.Bytes.{begins, is_word_byte}
+use Rattle.idl_lex.specs.LexSteps.{run, after_run}
+use Rattle.idl_lex.proofs.Lexing.Words.RunLaws.{run_passes, run_whole}
 use Rattle.tars_model.specs.Declarations.{Declared, items_at}
 use Rattle.tars_model.specs.Types.{TyLayer}
 use Rattle.tars_model.specs.declared.enum_desc.Item.{Item}

@@ -3,7 +3,7 @@ use Rattle.std.proofs.Common.{◌≡◌, ◌+◌, inl, inr, ℕ, ℤ, ◌==◌, 
 use Rattle.std.proofs.lemmas.List.{append_cancel_left}
 use Rattle.std.specs.Char.{is_ascii_alphabetic}
 use Rattle.canonical_text.specs.Canonical.{truth_word}
-use Rattle.idl_parse.specs.Bytes.{begins}
+use Rattle.idl_lex.specs.Bytes.{begins}
 use Rattle.tars_model.specs.Declarations.{Declared}
 use Rattle.tars_model.specs.Types.{TyLayer}
 use Rattle.tars_model.specs.declared.member.Member.{Member}

@@ -2,9 +2,9 @@
 use Rattle.std.proofs.Common.{◌≡◌, ℕ, Bool, true, false, cond, List, [], ◌∷◌, ◌++◌, refl, ap, ◌∙◌}
 use Rattle.std.proofs.lemmas.List.{append-nil}
 use Rattle.std.specs.List.{list_all}
-use Rattle.idl_parse.specs.Bytes.{begins}
-use Rattle.idl_parse.specs.LexSteps.{run, after_run}
-use Rattle.idl_parse.proofs.Lexing.Words.RunLaws.{run_over, after_over}
+use Rattle.idl_lex.specs.Bytes.{begins}
+use Rattle.idl_lex.specs.LexSteps.{run, after_run}
+use Rattle.idl_lex.proofs.Lexing.Words.RunLaws.{run_over, after_over}
 
 -- a run stops where a byte does not pass
 pub run_stops : (test : ℕ → Bool) (word rest : List ℕ) → list_all test word ≡ true → begins test rest ≡ false → run test (word ++ rest) ≡ word

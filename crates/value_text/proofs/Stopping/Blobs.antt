@@ -1,7 +1,7 @@
 -- Blobs in which reading gets stuck.
 use Rattle.std.proofs.Common.{◌≡◌, ◌<◌, ◌+◌, ℕ, zero, suc, Bool, true, false, cond, Option, Some, None, List, [], ◌∷◌, length, Ok, Err, refl, sym, ap, ◌∙◌, arith}
 use Rattle.facts.specs.ResultSteps.{◌>>=◌}
-use Rattle.idl_parse.specs.Bytes.{begins}
+use Rattle.idl_lex.specs.Bytes.{begins}
 use Rattle.value_text.specs.Answers.{IsEnd}
 use Rattle.value_text.specs.ReadSteps.{blob_at, byte_at, pair_at, blob_unit_at, unit_then, units_at}
 use Rattle.value_text.specs.Spelling.{is_hexadecimal, PairSpells, is_marked, is_plain, UnitSpells, plain, marked, digits, TextSpells, BlobSpells}

@@ -1,7 +1,7 @@
 -- Texts at the start of bytes, and where reading one gets stuck.
 use Rattle.std.proofs.Common.{◌≡◌, ℕ, Bool, true, false, List, [], ◌∷◌, ◌++◌, refl, sym, ap, ◌∙◌, subst, append_assoc}
 use Rattle.std.proofs.lemmas.List.{append_cancel_left}
-use Rattle.idl_parse.specs.Bytes.{begins}
+use Rattle.idl_lex.specs.Bytes.{begins}
 use Rattle.value_text.proofs.Signs.{false_is_not_true}
 
 -- what bytes begin with such a text, and what comes after it

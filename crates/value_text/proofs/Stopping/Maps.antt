@@ -2,7 +2,7 @@
 use Rattle.std.proofs.Common.{◌≡◌, ◌≤◌, inl, inr, ℕ, zero, suc, Bool, true, false, ◌==◌, cond, Option, Some, None, List, [], ◌∷◌, length, map, drop, Ok, Err, refl, sym, ap, ◌∙◌, subst, arith}
 use Rattle.std.proofs.lemmas.List.{nil_from_length}
 use Rattle.facts.specs.ResultSteps.{◌>>=◌}
-use Rattle.idl_parse.specs.Bytes.{begins}
+use Rattle.idl_lex.specs.Bytes.{begins}
 use Rattle.tars_model.specs.Declarations.{Declared}
 use Rattle.tars_model.specs.Schemas.{IsSchema}
 use Rattle.std.specs.List.{insert}

@@ -8,9 +8,9 @@ use Rattle.std.proofs.lemmas.Slice.Eq.{bytes_eq-Decides}
 use Rattle.std.specs.Char.{is_ascii_alphabetic}
 use Rattle.std.specs.List.{list_all}
 use Rattle.std.specs.Str.{bytes_eq}
-use Rattle.idl_parse.specs.Bytes.{begins, is_word_byte}
-use Rattle.idl_parse.specs.LexSteps.{run, after_run}
-use Rattle.idl_parse.proofs.Lexing.Words.RunLaws.{take_is_run, run_whole, run_passes, run_over}
+use Rattle.idl_lex.specs.Bytes.{begins, is_word_byte}
+use Rattle.idl_lex.specs.LexSteps.{run, after_run}
+use Rattle.idl_lex.proofs.Lexing.Words.RunLaws.{take_is_run, run_whole, run_passes, run_over}
 use Rattle.tars_model.specs.declared.enum_desc.Item.{Item}
 use Rattle.value_text.specs.Answers.{IsEnd}
 use Rattle.value_text.specs.ReadSteps.{common_len, longest_begun, word_len, named, name_at}

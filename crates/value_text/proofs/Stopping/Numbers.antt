@@ -4,9 +4,9 @@ use Rattle.std.proofs.lemmas.Bool.{eqb-true}
 use Rattle.std.proofs.lemmas.Bool.Decides.{nat_tests}
 use Rattle.std.specs.List.{prefix_len}
 use Rattle.std.specs.Str.Parse.{digits_value}
-use Rattle.idl_parse.specs.Bytes.{begins}
-use Rattle.idl_parse.specs.Forms.{is_in_range}
-use Rattle.idl_parse.specs.Meanings.{whole_number}
+use Rattle.idl_lex.specs.Bytes.{begins}
+use Rattle.idl_lex.specs.Forms.{is_in_range}
+use Rattle.idl_lex.specs.Meanings.{whole_number}
 use Rattle.value_text.specs.Answers.{IsEnd}
 use Rattle.value_text.specs.ReadSteps.{unexpected, out_of_range, natural_len, positive_len, word_of, number_word_at, integer_at}
 use Rattle.value_text.specs.Spelling.{is_decimal, is_positive, NaturalSpells, NumberSpells}

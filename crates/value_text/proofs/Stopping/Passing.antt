@@ -1,7 +1,7 @@
 -- Values and signs, and what gets stuck after them.
 use Rattle.std.proofs.Common.{◌≡◌, ℕ, Bool, true, false, ◌==◌, ◌||◌, cond, List, [], ◌∷◌, ◌++◌, Err, refl, sym, ap, ◌∙◌, subst, arith}
 use Rattle.std.proofs.lemmas.Bool.Decides.{nat_tests}
-use Rattle.idl_parse.specs.Bytes.{begins, is_word_byte}
+use Rattle.idl_lex.specs.Bytes.{begins, is_word_byte}
 use Rattle.tars_model.specs.Declarations.{Declared}
 use Rattle.tars_model.specs.Schemas.{IsSchema}
 use Rattle.tars_model.specs.declared.ty.Ty.{Ty}

@@ -3,7 +3,7 @@ use Rattle.std.proofs.Common.{◌≡◌, ℕ, ℤ, Bool, true, false, ◌==◌, 
 use Rattle.std.specs.Char.{is_ascii_alphabetic}
 use Rattle.canonical_text.specs.Canonical.{truth_word}
 use Rattle.facts.specs.ResultSteps.{◌>>=◌}
-use Rattle.idl_parse.specs.Bytes.{begins}
+use Rattle.idl_lex.specs.Bytes.{begins}
 use Rattle.tars_model.specs.Declarations.{Declared, items_at}
 use Rattle.tars_model.specs.Types.{TyLayer}
 use Rattle.tars_model.specs.Values.{is_number_of}

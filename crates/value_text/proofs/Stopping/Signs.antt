@@ -2,7 +2,7 @@
 use Rattle.std.proofs.Common.{◌≡◌, ℕ, Bool, true, false, ◌==◌, ◌||◌, cond, List, [], ◌∷◌, ◌++◌, Result, Ok, Err, refl, sym, ap, ◌∙◌, subst, append_assoc}
 use Rattle.std.proofs.lemmas.List.{append_cancel_left}
 use Rattle.facts.specs.ResultSteps.{◌>>=◌}
-use Rattle.idl_parse.specs.Bytes.{begins}
+use Rattle.idl_lex.specs.Bytes.{begins}
 use Rattle.value_text.specs.ReadSteps.{Read, Stop, unexpected, byte_at, sign_at, word_at}
 use Rattle.value_text.specs.Spelling.{past_gap}
 use Rattle.value_text.specs.declared.value_fault.ValueWhy.{ValueWhy}

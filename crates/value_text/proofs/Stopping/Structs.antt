@@ -3,7 +3,7 @@ use Rattle.std.proofs.Common.{◌≡◌, ◌≤◌, ℕ, suc, true, false, List,
 use Rattle.std.proofs.lemmas.Bool.Decides.{nat_tests}
 use Rattle.std.specs.Char.{is_ascii_alphabetic}
 use Rattle.facts.specs.ResultSteps.{◌>>=◌}
-use Rattle.idl_parse.specs.Bytes.{begins, is_word_byte}
+use Rattle.idl_lex.specs.Bytes.{begins, is_word_byte}
 use Rattle.tars_model.specs.Declarations.{Declared, members_at}
 use Rattle.tars_model.specs.Schemas.{IsSchema}
 use Rattle.tars_model.specs.declared.member.Member.{Member}

@@ -4,7 +4,7 @@ use Rattle.std.proofs.lemmas.Bool.{eqb-true}
 use Rattle.std.proofs.lemmas.Bool.Decides.{nat_tests}
 use Rattle.std.specs.Char.{digit_value}
 use Rattle.facts.specs.ResultSteps.{◌>>=◌}
-use Rattle.idl_parse.specs.Bytes.{begins}
+use Rattle.idl_lex.specs.Bytes.{begins}
 use Rattle.value_text.specs.ReadSteps.{unexpected, digit_at, pair_at, escape_at, text_unit_at}
 use Rattle.value_text.specs.Spelling.{is_hexadecimal, PairSpells, is_marked, is_plain, UnitSpells, plain, marked, digits}
 use Rattle.value_text.specs.declared.value_fault.ValueWhy.{ValueWhy}

@@ -11,7 +11,7 @@ use Rattle.idl_load.specs.Loading.{begin, include, follow, visit}
 use Rattle.idl_load.specs.LoadAnswers.{IsErrGiven}
 use Rattle.idl_load.specs.LoadSteps.{IsGiven, ForStep, Keeps}
 use Rattle.idl_parse.specs.Files.{include_spans}
-use Rattle.idl_parse.specs.Meanings.{plain_text as meaning}
+use Rattle.idl_lex.specs.Meanings.{plain_text as meaning}
 use Rattle.idl_load.proofs.Seeing.{kept_on, always, onward, both}
 use Rattle.idl_load.proofs.loading.+visit.Goals.{follow-in-Include+in_ok-include, follow-in_default}
 use Rattle.std.proofs.lemmas.List.{append-nil}

@@ -4,8 +4,8 @@ use Rattle.std.proofs.lemmas.Bool.{cases_Bool}
 use Rattle.idl_parse.specs.KindSteps.{begins}
 use Rattle.idl_parse.specs.ReadSteps.{Read}
 use Rattle.idl_parse.specs.Rules.{Rel, Either}
-use Rattle.idl_parse.specs.declared.kind.Kind.{Kind}
-use Rattle.idl_parse.specs.declared.token.Token.{Token}
+use Rattle.idl_lex.specs.declared.kind.Kind.{Kind}
+use Rattle.idl_lex.specs.declared.token.Token.{Token}
 use Rattle.idl_parse.proofs.Parsing.Combining.Heads.{starts_left, starts_right, apart, starts_apart, starts_same, starts_nothing, begins_is}
 use Rattle.idl_parse.proofs.Parsing.Combining.Readers.{Reader, halted, too_deep, Shape, head_of, starts, Begun, has_some, has_none, Fresh, some_more, no_more, Kept, Stayed, Deep, Filled, Reads, kept_as, stayed_as, deep_as, filled_as}
 

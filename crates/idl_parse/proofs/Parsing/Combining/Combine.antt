@@ -4,8 +4,8 @@ use Rattle.idl_parse.specs.Depth.{following}
 use Rattle.idl_parse.specs.KindSteps.{holds}
 use Rattle.idl_parse.specs.ReadSteps.{one_at, maybe_at}
 use Rattle.idl_parse.specs.Rules.{Rel, Gives, ◌⟫◌, One, Either, Maybe}
-use Rattle.idl_parse.specs.declared.kind.Kind.{Kind}
-use Rattle.idl_parse.specs.declared.token.Token.{Token}
+use Rattle.idl_lex.specs.declared.kind.Kind.{Kind}
+use Rattle.idl_lex.specs.declared.token.Token.{Token}
 use Rattle.idl_parse.proofs.Parsing.Combining.Choice.{choose, one_kind, alt, choice}
 use Rattle.idl_parse.proofs.Parsing.Combining.Heads.{apart}
 use Rattle.idl_parse.proofs.Parsing.Combining.InOrder.{then, in_order, in_order_where_read, core_in_order}

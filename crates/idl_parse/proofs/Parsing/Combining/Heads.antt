@@ -4,8 +4,8 @@ use Rattle.facts.specs.ResultSteps.{◌>>=◌}
 use Rattle.idl_parse.specs.Depth.{following, opened, Shallow}
 use Rattle.idl_parse.specs.KindSteps.{same_kind, holds, begins}
 use Rattle.idl_parse.specs.ReadSteps.{Stop}
-use Rattle.idl_parse.specs.declared.kind.Kind.{Kind}
-use Rattle.idl_parse.specs.declared.token.Token.{Token}
+use Rattle.idl_lex.specs.declared.kind.Kind.{Kind}
+use Rattle.idl_lex.specs.declared.token.Token.{Token}
 use Rattle.idl_parse.proofs.Parsing.Combining.KindLaws.{same_kind_is}
 use Rattle.idl_parse.proofs.Parsing.Combining.Readers.{head_of, holds_head, starts}
 

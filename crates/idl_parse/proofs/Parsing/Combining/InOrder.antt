@@ -6,7 +6,7 @@ use Rattle.idl_parse.specs.Depth.{opened}
 use Rattle.idl_parse.specs.ReadSteps.{Read}
 use Rattle.idl_parse.specs.Rules.{Rel, ◌⟫◌}
 use Rattle.idl_parse.specs.declared.parse_fault.ParseWhy.TheVariants.{Unexpected, TooDeep}
-use Rattle.idl_parse.specs.declared.token.Token.{Token}
+use Rattle.idl_lex.specs.declared.token.Token.{Token}
 use Rattle.idl_parse.proofs.Parsing.Combining.Heads.{bind_err, then_ok, then_err, empty_both, prefixes_join, starts_left, starts_right, apart, starts_apart, starts_nothing, head_append, opened_append, shallow_append}
 use Rattle.idl_parse.proofs.Parsing.Combining.Readers.{Reader, halted, too_deep, Shape, seq, head_of, starts, Begun, has_some, has_none, Fresh, some_more, no_more, Kept, Stayed, Deep, Filled, Core, Reads, core_of}
 

@@ -2,12 +2,12 @@
 use Rattle.std.proofs.Common.{◌≡◌, ℕ, Bool, true, false, List, [], ◌∷◌, get_or, refl, sym, ap, ◌∙◌, IsTrue, ◌↔◌}
 use Rattle.std.proofs.lemmas.Bool.{eqb-true, eq-eqb}
 use Rattle.idl_parse.specs.KindSteps.{code_of, code_of_word, code_of_sign, same_kind}
-use Rattle.idl_parse.specs.declared.keyword.Keyword.{Keyword}
-use Rattle.idl_parse.specs.declared.keyword.Keyword.TheVariants as words
-use Rattle.idl_parse.specs.declared.kind.Kind.{Kind}
-use Rattle.idl_parse.specs.declared.kind.Kind.TheVariants as kinds
-use Rattle.idl_parse.specs.declared.sign.Sign.{Sign}
-use Rattle.idl_parse.specs.declared.sign.Sign.TheVariants as signs
+use Rattle.idl_lex.specs.declared.keyword.Keyword.{Keyword}
+use Rattle.idl_lex.specs.declared.keyword.Keyword.TheVariants as words
+use Rattle.idl_lex.specs.declared.kind.Kind.{Kind}
+use Rattle.idl_lex.specs.declared.kind.Kind.TheVariants as kinds
+use Rattle.idl_lex.specs.declared.sign.Sign.{Sign}
+use Rattle.idl_lex.specs.declared.sign.Sign.TheVariants as signs
 
 -- all kinds by their numbers
 table : List Kind

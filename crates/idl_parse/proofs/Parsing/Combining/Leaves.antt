@@ -4,9 +4,9 @@ use Rattle.idl_parse.specs.Depth.{following}
 use Rattle.idl_parse.specs.KindSteps.{same_kind, holds}
 use Rattle.idl_parse.specs.ReadSteps.{Stop, Read, one_at, meant, means_at}
 use Rattle.idl_parse.specs.Rules.{Gives, One, Means}
-use Rattle.idl_parse.specs.declared.kind.Kind.{Kind}
+use Rattle.idl_lex.specs.declared.kind.Kind.{Kind}
 use Rattle.idl_parse.specs.declared.parse_fault.ParseWhy.TheVariants.{Unexpected, TooDeep}
-use Rattle.idl_parse.specs.declared.token.Token.{Token}
+use Rattle.idl_lex.specs.declared.token.Token.{Token}
 use Rattle.idl_parse.proofs.Parsing.Combining.KindLaws.{same_kind_is, is_same_kind}
 use Rattle.idl_parse.proofs.Parsing.Combining.Heads.{holds_one}
 use Rattle.idl_parse.proofs.Parsing.Combining.Readers.{Reader, halted, Shape, starts, has_some, has_none, some_more, no_more, Reads}

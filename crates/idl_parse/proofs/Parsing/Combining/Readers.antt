@@ -5,9 +5,9 @@ use Rattle.idl_parse.specs.Depth.{opened, Shallow}
 use Rattle.idl_parse.specs.KindSteps.{holds}
 use Rattle.idl_parse.specs.ReadSteps.{Stop, Read}
 use Rattle.idl_parse.specs.Rules.{Rel}
-use Rattle.idl_parse.specs.declared.kind.Kind.{Kind}
+use Rattle.idl_lex.specs.declared.kind.Kind.{Kind}
 use Rattle.idl_parse.specs.declared.parse_fault.ParseWhy.TheVariants.{Unexpected, TooDeep}
-use Rattle.idl_parse.specs.declared.token.Token.{Token}
+use Rattle.idl_lex.specs.declared.token.Token.{Token}
 
 -- a reader, by the room for types inside each other
 abbrev pub Reader : Type 0 → Type 0

@@ -2,11 +2,11 @@
 use Rattle.std.proofs.Common.{◌≡◌, ℕ, Some, None, List, [], ◌∷◌, refl, sym, ap, ◌∙◌, subst, inl, inr}
 use Rattle.idl_parse.specs.Grammar.{Word, Mark, Ident, Listed, Item, Items}
 use Rattle.idl_parse.specs.Rules.{Rel, Gives, ◌⟫◌, Either, Maybe, Many, none, more}
-use Rattle.idl_parse.specs.declared.keyword.Keyword.{Keyword}
-use Rattle.idl_parse.specs.declared.sign.Sign.{Sign}
-use Rattle.idl_parse.specs.declared.sign.Sign.TheVariants.{OpenBrace, CloseBrace, Comma}
-use Rattle.idl_parse.specs.declared.span.Span.{Span}
-use Rattle.idl_parse.specs.declared.token.Token.{Token}
+use Rattle.idl_lex.specs.declared.keyword.Keyword.{Keyword}
+use Rattle.idl_lex.specs.declared.sign.Sign.{Sign}
+use Rattle.idl_lex.specs.declared.sign.Sign.TheVariants.{OpenBrace, CloseBrace, Comma}
+use Rattle.idl_lex.specs.declared.span.Span.{Span}
+use Rattle.idl_lex.specs.declared.token.Token.{Token}
 use Rattle.idl_parse.specs.declared.tree.decl.EnumItem.{EnumItem}
 use Rattle.idl_parse.proofs.Parsing.Combining.Readers.{Reader, Shape, Reads}
 use Rattle.idl_parse.proofs.Parsing.Combining.Regroup.{same_relation}

@@ -1,7 +1,7 @@
 -- The same reader under another relation, another shape or another spelling of it.
 use Rattle.std.proofs.Common.{◌≡◌, ℕ, ◌≤◌, true, List, ◌∷◌, ◌++◌, sym, ◌∙◌, arith}
 use Rattle.idl_parse.specs.Rules.{Rel}
-use Rattle.idl_parse.specs.declared.token.Token.{Token}
+use Rattle.idl_lex.specs.declared.token.Token.{Token}
 use Rattle.idl_parse.proofs.Parsing.Combining.Readers.{Reader, Shape, starts, Begun, has_some, has_none, Fresh, some_more, no_more, Reads, kept_as, stayed_as, deep_as, filled_as}
 
 pub same_relation : {A : Type 0} (k n limit a b : ℕ) (S : Shape) (D E : Rel A) (f : Reader A) → Reads k n limit a b S D f → ((ts : List Token) (x : A) (rest : List Token) → D ts x rest → E ts x rest) → ((ts : List Token) (x : A) (rest : List Token) → E ts x rest → D ts x rest) → Reads k n limit a b S E f

@@ -6,9 +6,9 @@ use Rattle.idl_parse.specs.Grammar.{EntryOf, IsFile}
 use Rattle.idl_parse.specs.KindSteps.{holds}
 use Rattle.idl_parse.specs.ReadSteps.{Stop, entry_at, file_in, file_at}
 use Rattle.idl_parse.specs.Rules.{Many, none, more}
-use Rattle.idl_parse.specs.declared.keyword.Keyword.TheVariants as words
-use Rattle.idl_parse.specs.declared.kind.Kind.TheVariants as kinds
-use Rattle.idl_parse.specs.declared.token.Token.{Token}
+use Rattle.idl_lex.specs.declared.keyword.Keyword.TheVariants as words
+use Rattle.idl_lex.specs.declared.kind.Kind.TheVariants as kinds
+use Rattle.idl_lex.specs.declared.token.Token.{Token}
 use Rattle.idl_parse.specs.declared.tree.module.Entry.{Entry}
 use Rattle.idl_parse.proofs.Parsing.Combining.Heads.{then_ok, then_err}
 use Rattle.idl_parse.specs.ReadSteps.{Shrinks}

@@ -4,7 +4,7 @@ use Rattle.std.proofs.lemmas.List.{append-nil}
 use Rattle.facts.specs.ResultSteps.{◌>>=◌}
 use Rattle.idl_parse.specs.ReadSteps.{Stop, Fails, entry_at, file_at}
 use Rattle.idl_parse.specs.declared.parser.halt.Halt.{Halt}
-use Rattle.idl_parse.specs.declared.token.Token.{Token}
+use Rattle.idl_lex.specs.declared.token.Token.{Token}
 use Rattle.idl_parse.specs.declared.tree.module.Entry.{Entry}
 use Rattle.idl_parse.proofs.Parsing.Deriving.FileLaws.{after_entry, entry_shrinks, file_nothing, file_turn, file_goes_on}
 use Rattle.idl_parse.proofs.Parsing.Combining.Heads.{then_err}

@@ -5,11 +5,12 @@ use Rattle.idl_parse.specs.Grammar.{Mark, SpanOf, Ident, Scoped, Array, LiteralO
 use Rattle.idl_parse.specs.KindSteps.{same_kind, holds}
 use Rattle.idl_parse.specs.ReadSteps.{span_at, second_at, scoped_at, array_at, named_literal_at, word_literal_at, literal_at, default_at, basic_at, unsigned_at, named_at, flat_at}
 use Rattle.idl_parse.specs.Rules.{Gives, ◌⟫◌, Means, Either}
-use Rattle.idl_parse.specs.Words.{span, basic_of, unsigned_of, requirement_of, literal_of, scoped_name}
-use Rattle.idl_parse.specs.declared.keyword.Keyword.TheVariants as words
-use Rattle.idl_parse.specs.declared.kind.Kind.{Kind}
-use Rattle.idl_parse.specs.declared.kind.Kind.TheVariants as kinds
-use Rattle.idl_parse.specs.declared.sign.Sign.TheVariants.{OpenBracket, CloseBracket, Equals, PathSep}
+use Rattle.idl_lex.specs.Spans.{span}
+use Rattle.idl_parse.specs.Words.{basic_of, unsigned_of, requirement_of, literal_of, scoped_name}
+use Rattle.idl_lex.specs.declared.keyword.Keyword.TheVariants as words
+use Rattle.idl_lex.specs.declared.kind.Kind.{Kind}
+use Rattle.idl_lex.specs.declared.kind.Kind.TheVariants as kinds
+use Rattle.idl_lex.specs.declared.sign.Sign.TheVariants.{OpenBracket, CloseBracket, Equals, PathSep}
 use Rattle.idl_parse.specs.declared.tree.literal.Literal.TheVariants as literals
 use Rattle.idl_parse.specs.declared.tree.literal.LiteralWord.TheVariants as forms
 use Rattle.idl_parse.specs.declared.tree.member.Requirement.{Requirement}

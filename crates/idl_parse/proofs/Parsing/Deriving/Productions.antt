@@ -6,11 +6,11 @@ use Rattle.idl_parse.specs.KindSteps.{same_kind, holds}
 use Rattle.idl_parse.specs.ReadSteps.{one_at, span_at, type_at, typed_at, ended_at, member_end_at, member_at, heading_at, members_at, struct_at, enum_at, const_at, name_after_at, names_at, key_at, param_at, param_after_at, more_params_at, first_params_at, no_params_at, params_at, void_at, some_type_at, ret_at, func_at, funcs_at, interface_at, other_decl_at, decl_at, decls_at, module_at, include_at, entry_at}
 use Rattle.idl_parse.specs.Rules.{Rel, Gives, ◌⟫◌, One, Either, Maybe, Many}
 use Rattle.idl_parse.specs.Words.{requirement_of}
-use Rattle.idl_parse.specs.declared.keyword.Keyword.{Keyword}
-use Rattle.idl_parse.specs.declared.keyword.Keyword.TheVariants as words
-use Rattle.idl_parse.specs.declared.kind.Kind.{Kind}
-use Rattle.idl_parse.specs.declared.kind.Kind.TheVariants as kinds
-use Rattle.idl_parse.specs.declared.sign.Sign.TheVariants.{OpenBrace, CloseBrace, OpenParen, CloseParen, OpenBracket, CloseBracket, Comma, Semicolon, Equals, PathSep}
+use Rattle.idl_lex.specs.declared.keyword.Keyword.{Keyword}
+use Rattle.idl_lex.specs.declared.keyword.Keyword.TheVariants as words
+use Rattle.idl_lex.specs.declared.kind.Kind.{Kind}
+use Rattle.idl_lex.specs.declared.kind.Kind.TheVariants as kinds
+use Rattle.idl_lex.specs.declared.sign.Sign.TheVariants.{OpenBrace, CloseBrace, OpenParen, CloseParen, OpenBracket, CloseBracket, Comma, Semicolon, Equals, PathSep}
 use Rattle.idl_parse.specs.declared.tree.func.ParamTree.{ParamTree}
 use Rattle.idl_parse.specs.declared.tree.literal.Literal.{Literal}
 use Rattle.idl_parse.specs.declared.tree.member.ArrayLen.{ArrayLen}

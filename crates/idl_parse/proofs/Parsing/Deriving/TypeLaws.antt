@@ -6,14 +6,14 @@ use Rattle.idl_parse.specs.Grammar.{Mark, VectorOf, MapOf, UnsignedOf, NamedOf, 
 use Rattle.idl_parse.specs.KindSteps.{same_kind, holds, begins}
 use Rattle.idl_parse.specs.ReadSteps.{Stop, Read, one_at, mark_at, span_at, means_at, after_at, vector_at, map_at, flat_at, unsigned_at, named_at, scoped_at, basic_at, is_type_start, no_room_at, type_with, type_at}
 use Rattle.idl_parse.specs.Rules.{Rel, ◌⟫◌, Either}
-use Rattle.idl_parse.specs.declared.keyword.Keyword.TheVariants as words
-use Rattle.idl_parse.specs.declared.kind.Kind.{Kind}
-use Rattle.idl_parse.specs.declared.kind.Kind.TheVariants as kinds
+use Rattle.idl_lex.specs.declared.keyword.Keyword.TheVariants as words
+use Rattle.idl_lex.specs.declared.kind.Kind.{Kind}
+use Rattle.idl_lex.specs.declared.kind.Kind.TheVariants as kinds
 use Rattle.idl_parse.specs.declared.parse_fault.ParseWhy.TheVariants.{Unexpected, TooDeep}
-use Rattle.idl_parse.specs.declared.sign.Sign.{Sign}
-use Rattle.idl_parse.specs.declared.sign.Sign.TheVariants as signs
-use Rattle.idl_parse.specs.declared.sign.Sign.TheVariants.{Less, Greater, Comma, PathSep}
-use Rattle.idl_parse.specs.declared.token.Token.{Token}
+use Rattle.idl_lex.specs.declared.sign.Sign.{Sign}
+use Rattle.idl_lex.specs.declared.sign.Sign.TheVariants as signs
+use Rattle.idl_lex.specs.declared.sign.Sign.TheVariants.{Less, Greater, Comma, PathSep}
+use Rattle.idl_lex.specs.declared.token.Token.{Token}
 use Rattle.idl_parse.specs.declared.tree.type_tree.BasicType.TheVariants as basics
 use Rattle.idl_parse.specs.declared.tree.type_tree.TypeTree.{TypeTree}
 use Rattle.idl_parse.specs.declared.tree.type_tree.TypeTree.TheVariants as types

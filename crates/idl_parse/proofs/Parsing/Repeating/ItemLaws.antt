@@ -7,9 +7,9 @@ use Rattle.idl_parse.specs.Grammar.{Mark, Number, Item}
 use Rattle.idl_parse.specs.KindSteps.{same_kind, holds, begins}
 use Rattle.idl_parse.specs.ReadSteps.{Read, mark_at, item_number_at, item_at, item_comma_at, items_at}
 use Rattle.idl_parse.specs.Rules.{Rel, Gives, ◌⟫◌, Either}
-use Rattle.idl_parse.specs.declared.kind.Kind.TheVariants as kinds
-use Rattle.idl_parse.specs.declared.sign.Sign.TheVariants.{CloseBrace, Comma, Equals}
-use Rattle.idl_parse.specs.declared.token.Token.{Token}
+use Rattle.idl_lex.specs.declared.kind.Kind.TheVariants as kinds
+use Rattle.idl_lex.specs.declared.sign.Sign.TheVariants.{CloseBrace, Comma, Equals}
+use Rattle.idl_lex.specs.declared.token.Token.{Token}
 use Rattle.idl_parse.specs.declared.tree.decl.EnumItem.{EnumItem}
 use Rattle.idl_parse.proofs.Parsing.Combining.Choice.{choose, one_kind, filled_by_first}
 use Rattle.idl_parse.proofs.Parsing.Combining.Combine.{next, done, either, maybe}

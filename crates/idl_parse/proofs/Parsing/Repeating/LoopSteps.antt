@@ -4,11 +4,11 @@ use Rattle.std.proofs.lemmas.List.{append-nil}
 use Rattle.facts.specs.ResultSteps.{◌>>=◌}
 use Rattle.idl_parse.specs.KindSteps.{begins}
 use Rattle.idl_parse.specs.ReadSteps.{Stop, Read, Fails, mark_at, with_prefix, until_at}
-use Rattle.idl_parse.specs.declared.kind.Kind.TheVariants as kinds
+use Rattle.idl_lex.specs.declared.kind.Kind.TheVariants as kinds
 use Rattle.idl_parse.specs.declared.parser.halt.Halt.{Halt}
 use Rattle.idl_parse.specs.declared.parser.halt.Halt.TheVariants as halts
-use Rattle.idl_parse.specs.declared.sign.Sign.{Sign}
-use Rattle.idl_parse.specs.declared.token.Token.{Token}
+use Rattle.idl_lex.specs.declared.sign.Sign.{Sign}
+use Rattle.idl_lex.specs.declared.token.Token.{Token}
 use Rattle.idl_parse.specs.ReadSteps.{Shrinks}
 use Rattle.idl_parse.proofs.Parsing.Repeating.Loops.{until_turn}
 

@@ -4,9 +4,9 @@ use Rattle.facts.specs.ResultSteps.{◌>>=◌}
 use Rattle.facts.proofs.ResultLaws.{bind_same_after}
 use Rattle.idl_parse.specs.KindSteps.{begins}
 use Rattle.idl_parse.specs.ReadSteps.{Read, Shrinks, mark_at, until_in, until_at}
-use Rattle.idl_parse.specs.declared.kind.Kind.TheVariants as kinds
-use Rattle.idl_parse.specs.declared.sign.Sign.{Sign}
-use Rattle.idl_parse.specs.declared.token.Token.{Token}
+use Rattle.idl_lex.specs.declared.kind.Kind.TheVariants as kinds
+use Rattle.idl_lex.specs.declared.sign.Sign.{Sign}
+use Rattle.idl_lex.specs.declared.token.Token.{Token}
 
 pub cond_same : {A : Type 0} (b : Bool) (x y z : A) → y ≡ z → cond b x y ≡ cond b x z
 cond_same b x y z same = ap (cond b x) same

@@ -2,13 +2,13 @@
 use Rattle.std.proofs.Common.{◌≡◌, ◌≤◌, ℕ, true, if◌then◌else◌, Some, Ok, List, [], ◌∷◌, length, drop, slice_index_or, refl, arith}
 use Rattle.idl_parse.specs.KindSteps.{same_kind, first_kind, begins}
 use Rattle.idl_parse.specs.ReadSteps.{Read, one_at, basic_at, unsigned_at, named_at, flat_at, vector_at, map_at, type_with, type_of, struct_at, enum_at, const_at, key_at, interface_at, other_decl_at, decl_at, decl_of}
-use Rattle.idl_parse.specs.declared.keyword.Keyword.{Keyword}
-use Rattle.idl_parse.specs.declared.keyword.Keyword.TheVariants as words
-use Rattle.idl_parse.specs.declared.kind.Kind.{Kind}
-use Rattle.idl_parse.specs.declared.kind.Kind.TheVariants as kinds
-use Rattle.idl_parse.specs.declared.sign.Sign.{Sign}
-use Rattle.idl_parse.specs.declared.sign.Sign.TheVariants as signs
-use Rattle.idl_parse.specs.declared.token.Token.{Token}
+use Rattle.idl_lex.specs.declared.keyword.Keyword.{Keyword}
+use Rattle.idl_lex.specs.declared.keyword.Keyword.TheVariants as words
+use Rattle.idl_lex.specs.declared.kind.Kind.{Kind}
+use Rattle.idl_lex.specs.declared.kind.Kind.TheVariants as kinds
+use Rattle.idl_lex.specs.declared.sign.Sign.{Sign}
+use Rattle.idl_lex.specs.declared.sign.Sign.TheVariants as signs
+use Rattle.idl_lex.specs.declared.token.Token.{Token}
 use Rattle.idl_parse.specs.declared.tree.type_tree.TypeTree.{TypeTree}
 
 pub some_first : (d : Token) (ts : List Token) → 1 ≤ length ts → (rest : List Token) × (ts ≡ slice_index_or ts 0 d ∷ rest)

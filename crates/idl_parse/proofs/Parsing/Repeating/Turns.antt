@@ -3,9 +3,9 @@ use Rattle.std.proofs.Common.{[], ◌∷◌}
 use Rattle.idl_parse.specs.Grammar.{Mark, Ident, Member, Func, Decl, Param}
 use Rattle.idl_parse.specs.ReadSteps.{ended_at, member_at, func_at, decl_at, name_after_at, param_after_at}
 use Rattle.idl_parse.specs.Rules.{Gives, ◌⟫◌}
-use Rattle.idl_parse.specs.declared.keyword.Keyword.TheVariants as words
-use Rattle.idl_parse.specs.declared.kind.Kind.TheVariants as kinds
-use Rattle.idl_parse.specs.declared.sign.Sign.TheVariants.{Comma, Semicolon}
+use Rattle.idl_lex.specs.declared.keyword.Keyword.TheVariants as words
+use Rattle.idl_lex.specs.declared.kind.Kind.TheVariants as kinds
+use Rattle.idl_lex.specs.declared.sign.Sign.TheVariants.{Comma, Semicolon}
 use Rattle.idl_parse.specs.ReadSteps.{Shrinks}
 use Rattle.idl_parse.proofs.Parsing.Deriving.Productions.{ended_member, ended_func, ended_decl, decl_words, name_after, param_after}
 use Rattle.idl_parse.proofs.Parsing.Deriving.TypeLaws.{type_words}

@@ -4,10 +4,10 @@ use Rattle.idl_parse.specs.Depth.{following}
 use Rattle.idl_parse.specs.Grammar.{Mark}
 use Rattle.idl_parse.specs.ReadSteps.{mark_at, until_at}
 use Rattle.idl_parse.specs.Rules.{Rel, Gives, ◌⟫◌, Either, Many, none, more}
-use Rattle.idl_parse.specs.declared.kind.Kind.{Kind}
-use Rattle.idl_parse.specs.declared.kind.Kind.TheVariants as kinds
-use Rattle.idl_parse.specs.declared.sign.Sign.{Sign}
-use Rattle.idl_parse.specs.declared.token.Token.{Token}
+use Rattle.idl_lex.specs.declared.kind.Kind.{Kind}
+use Rattle.idl_lex.specs.declared.kind.Kind.TheVariants as kinds
+use Rattle.idl_lex.specs.declared.sign.Sign.{Sign}
+use Rattle.idl_lex.specs.declared.token.Token.{Token}
 use Rattle.idl_parse.proofs.Parsing.Combining.Choice.{one_kind, choice, filled_by_first}
 use Rattle.idl_parse.proofs.Parsing.Combining.Heads.{apart}
 use Rattle.idl_parse.proofs.Parsing.Combining.InOrder.{then, in_order}

@@ -11,10 +11,10 @@ use Rattle.idl_parse.specs.Grammar.{IsFile}
 use Rattle.idl_parse.specs.ReadSteps.{Stop, entry_at, file_at}
 use Rattle.idl_parse.specs.declared.parse_fault.ParseWhy.{ParseWhy}
 use Rattle.idl_parse.specs.declared.parse_fault.ParseWhy.TheVariants.{Unexpected, TooDeep}
-use Rattle.idl_parse.specs.declared.token.Token.{Token}
+use Rattle.idl_lex.specs.declared.token.Token.{Token}
 use Rattle.idl_parse.specs.declared.tree.module.Entry.{Entry}
-use Rattle.idl_parse.specs.declared.keyword.Keyword.TheVariants as words
-use Rattle.idl_parse.specs.declared.kind.Kind.TheVariants as kinds
+use Rattle.idl_lex.specs.declared.keyword.Keyword.TheVariants as words
+use Rattle.idl_lex.specs.declared.kind.Kind.TheVariants as kinds
 use Rattle.idl_parse.proofs.Parsing.Repeating.Until.{item_shape}
 use Rattle.idl_parse.proofs.Parsing.Deriving.FileLaws.{after_entry, entry_shrinks, file_turn, file_nothing, file_goes_on, file_ends, file_halts, file_sound, file_complete, nothing_follows}
 use Rattle.idl_parse.proofs.Parsing.Combining.Heads.{bind_err, prefixes_join, opened_append, shallow_append}

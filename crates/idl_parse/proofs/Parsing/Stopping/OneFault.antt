@@ -5,7 +5,7 @@ use Rattle.idl_parse.specs.Depth.{following, opened, Shallow}
 use Rattle.idl_parse.specs.Faults.{UnexpectedAt, TooDeepAt, StopsAt, IsFault, byte_of}
 use Rattle.idl_parse.specs.declared.parse_fault.ParseWhy.{ParseWhy}
 use Rattle.idl_parse.specs.declared.parse_fault.ParseWhy.TheVariants.{Unexpected, TooDeep}
-use Rattle.idl_parse.specs.declared.token.Token.{Token}
+use Rattle.idl_lex.specs.declared.token.Token.{Token}
 
 -- before each token fewer are open than the limit
 shallow_at : (most n : ℕ) (ts : List Token) (k : ℕ) → Shallow most n ts → k < length ts → opened n (take k ts) < most

@@ -9,7 +9,7 @@ use Rattle.idl_parse.specs.declared.parse_fault.ParseFault.TheVariants as faults
 use Rattle.idl_parse.specs.declared.parse_fault.ParseWhy.{ParseWhy}
 use Rattle.idl_parse.specs.declared.parser.halt.Halt.{Halt}
 use Rattle.idl_parse.specs.declared.parser.halt.Halt.TheVariants as halts
-use Rattle.idl_parse.specs.declared.token.Token.{Token}
+use Rattle.idl_lex.specs.declared.token.Token.{Token}
 use Rattle.idl_parse.specs.declared.tree.module.Entry.{Entry}
 use Rattle.idl_parse.proofs.Parsing.Stopping.FaultLaws.{file_fault}
 use Rattle.idl_parse.proofs.Parsing.Deriving.FileLaws.{file_sound, file_complete, entries_of, not_both}

@@ -1,5 +1,5 @@
 use Rattle.std.proofs.Common.{sym}
-use Rattle.idl_parse.specs.Meanings.{whole_number}
+use Rattle.idl_lex.specs.Meanings.{whole_number}
 use Rattle.idl_parse.specs.declared.tree.type_tree.TypeTree.{out-TypeTree}
 use Rattle.idl_scene.specs.Items.{word}
 use Rattle.idl_scene.proofs.NumberLaws.{none_fits}

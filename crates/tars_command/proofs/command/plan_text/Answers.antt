@@ -1,12 +1,9 @@
-use Rattle.tars_command.proofs.Comings.{plan_failed, plan_printed, is_loaded}
+use Rattle.tars_command.proofs.Comings.{plan_failed, plan_printed}
 use Rattle.tars_command.proofs.command.plan_text.Goals as goal
 
 pub returns-in_err-loaded-clause-exact : goal.returns-in_err-loaded-clause-exact
 returns-in_err-loaded-clause-exact g c =
     plan_failed _ (g.F.Files.contents c.args.files.now) c.args.script.now c.in_err-loaded.field-0.0 c.from_residual.result c.from_residual.ensures c.in_err-loaded.ensures.exact
-
-pub session_text-requires : goal.session_text-requires
-session_text-requires g c = is_loaded (g.F.Files.contents c.args.files.now) c.args.script.now c.in_ok-loaded.loaded c.in_ok-loaded.ensures.exact
 
 pub returns-clause-exact : goal.returns-clause-exact
 returns-clause-exact g c =

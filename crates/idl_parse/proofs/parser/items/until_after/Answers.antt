@@ -2,7 +2,7 @@ use Rattle.std.proofs.Common.{◌≡◌, true, false, rules}
 use Rattle.std.proofs.lemmas.Result.{err_from_is_err_and}
 use Rattle.idl_parse.specs.KindSteps.{begins}
 use Rattle.idl_parse.specs.ReadSteps.{with_prefix, until_at}
-use Rattle.idl_parse.specs.declared.kind.Kind.TheVariants.{Sign}
+use Rattle.idl_lex.specs.declared.kind.Kind.TheVariants.{Sign}
 use Rattle.idl_parse.proofs.Parsing.Repeating.LoopSteps.{loop_goes_on, loop_fails, loop_ends, loop_end_fails}
 use Rattle.idl_parse.proofs.parser.items.until_after.Goals as goal
 

@@ -6,5 +6,5 @@ use Rattle.report_lines.proofs.lines.Lines.put_calls.Given as goal
 -- the lines so far and those of the rows that are left
 abbrev pub invariant-loop-row : goal.invariant-loop-row
 invariant-loop-row l =
-    l.self ++ flat_map (call_line l.loaded) (drop l.row-index l.rows)
-    ≡ l.initial.self ++ flat_map (call_line l.loaded) l.rows
+    l.self ++ flat_map (call_line l.session) (drop l.row-index l.rows)
+    ≡ l.initial.self ++ flat_map (call_line l.session) l.rows

@@ -1,5 +1,5 @@
 use Rattle.std.proofs.Common.{◌∙◌, sym}
-use Rattle.idl_parse.specs.declared.kind.Kind.TheVariants.{Ident}
+use Rattle.idl_lex.specs.declared.kind.Kind.TheVariants.{Ident}
 use Rattle.idl_parse.proofs.Parsing.Repeating.TokenSteps.{some_first}
 use Rattle.idl_parse.proofs.parser.tokens.Tokens.first.Goals as goal
 

@@ -1,0 +1,12 @@
+pub mod Bytes
+pub mod EscapeSteps
+pub mod Forms
+pub mod LexAnswers
+pub mod LexSteps
+pub mod LexWhy
+pub mod Meanings
+pub mod Spans
+pub mod Spellings
+pub mod Texts
+pub mod Tokens
+pub mod Trivia

@@ -1,6 +1,0 @@
-use Rattle.idl_parse.specs.Tokens.IsLexeme.{trivia}
-use Rattle.idl_parse.proofs.Lexing.Lexemes.TriviaLaws.{trivia_is}
-use Rattle.idl_parse.proofs.lexemes.lexeme.Goals as goal
-
-pub returns-in-Some-clause-lexeme : goal.returns-in-Some-clause-lexeme
-returns-in-Some-clause-lexeme c = trivia (trivia_is c.args.bytes.now c.in-Some.rest.now c.in-Some.ensures)

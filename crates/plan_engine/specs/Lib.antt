@@ -1,0 +1,4 @@
+pub mod Claims
+pub mod OneLines
+pub mod Notes
+pub mod Tracks

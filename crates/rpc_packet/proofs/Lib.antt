@@ -1,0 +1,10 @@
+pub mod FrameBytes
+pub mod Lengths
+pub mod ComesBack
+pub mod Within
+pub mod CallerLemmas
+pub mod BodyReads
+pub mod MemberLaws
+pub mod MemberValues
+pub mod Taken
+pub mod ValuesFit

@@ -1,0 +1,17 @@
+use Rattle.rpc_packet.specs.Packets.{response_frame}
+use Rattle.rpc_packet.proofs.MemberLaws.{response_rises}
+use Rattle.rpc_packet.proofs.packets.Packets.write_response.Goals as goal
+
+pub frame-requires-clause-rising : goal.frame-requires-clause-rising
+frame-requires-clause-rising c = rw (c.as_slice.ensures, c.self.invariant.1) response_rises
+
+pub frame-requires-clause-fits : goal.frame-requires-clause-fits
+frame-requires-clause-fits c = rw (c.as_slice.ensures, c.self.invariant.1) c.response_values-values.ensures.fits
+
+pub returns-clause-written : goal.returns-clause-written
+unfolding response_frame
+returns-clause-written c = rw (c.as_slice.ensures, c.self.invariant.1, c.response_values-values.ensures.value) at c.frame.ensures.written
+
+pub returns-clause-limit : goal.returns-clause-limit
+unfolding response_frame
+returns-clause-limit c = rw (c.as_slice.ensures, c.self.invariant.1, c.response_values-values.ensures.value) at c.frame.ensures.limit

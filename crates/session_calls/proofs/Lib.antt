@@ -1,0 +1,4 @@
+pub mod Reading
+pub mod Functions
+pub mod TwoInts
+pub mod RuleLaws
