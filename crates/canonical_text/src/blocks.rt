@@ -44,7 +44,7 @@ fn turn(text: &mut TextBuffer, block: &Option<&[u8]>, home: &[u8]) -> Result<(),
 }
 
 #[tactic(auto, unfolding(crate::specs::Canonical::blocks))]
-fn put_blocks(alloc: Global, text: &mut TextBuffer, schema: &Schema) -> Result<(), AllocError>
+fn put_blocks(text: &mut TextBuffer, schema: &Schema) -> Result<(), AllocError>
     ensures text { OnOk result (text.new ≡ text.old ++ blocks schema.now None schema.now.order) }
     ensures rules { IsSchema schema.now }
 {
@@ -52,7 +52,7 @@ fn put_blocks(alloc: Global, text: &mut TextBuffer, schema: &Schema) -> Result<(
     for decl in schema.order() {
         let home = home_of(schema, *decl);
         turn(text, &block, home)?;
-        put_decl(alloc, text, schema, *decl)?;
+        put_decl(text, schema, *decl)?;
         block = Some(home);
     }
     end_block(text, &block)
@@ -66,6 +66,6 @@ pub fn print(alloc: Global, schema: &Schema) -> Result<Vec<u8>, AllocError>
     ensures rules { IsSchema schema.now }
 {
     let mut text = TextBuffer::new(alloc);
-    put_blocks(alloc, &mut text, schema)?;
+    put_blocks(&mut text, schema)?;
     Ok(text.into_bytes())
 }

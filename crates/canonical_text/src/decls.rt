@@ -8,7 +8,7 @@ use crate::funcs::put_funcs;
 use crate::literals::put_literal;
 use crate::members::{put_items, put_members};
 use crate::types::put_type;
-use std::alloc::{AllocError, Global};
+use std::alloc::AllocError;
 use tars_model::{ConstDesc, Decl, EnumDesc, InterfaceDesc, KeyDesc, Name, Schema, StructDesc};
 use text_buffer::TextBuffer;
 
@@ -30,16 +30,11 @@ fn close(text: &mut TextBuffer) -> Result<(), AllocError>
 }
 
 #[tactic(auto, unfolding(crate::specs::Canonical::struct_text))]
-fn put_struct(
-    alloc: Global,
-    text: &mut TextBuffer,
-    schema: &Schema,
-    s: &StructDesc,
-) -> Result<(), AllocError>
+fn put_struct(text: &mut TextBuffer, schema: &Schema, s: &StructDesc) -> Result<(), AllocError>
     ensures { OnOk result (text.new ≡ text.old ++ struct_text schema.now s.now) }
 {
     open(text, "struct", &s.name)?;
-    put_members(alloc, text, schema, &s.module, s.members.as_slice())?;
+    put_members(text, schema, &s.module, s.members.as_slice())?;
     close(text)
 }
 
@@ -53,12 +48,7 @@ fn put_enum(text: &mut TextBuffer, e: &EnumDesc) -> Result<(), AllocError>
 }
 
 #[tactic(auto, unfolding(crate::specs::Canonical::const_text))]
-fn put_const(
-    alloc: Global,
-    text: &mut TextBuffer,
-    schema: &Schema,
-    c: &ConstDesc,
-) -> Result<(), AllocError>
+fn put_const(text: &mut TextBuffer, schema: &Schema, c: &ConstDesc) -> Result<(), AllocError>
     ensures { OnOk result (text.new ≡ text.old ++ const_text schema.now c.now) }
 {
     text.word("    const ")?;
@@ -66,7 +56,7 @@ fn put_const(
     text.word(" ")?;
     text.put(&c.name)?;
     text.word(" = ")?;
-    put_literal(alloc, text, &c.value)?;
+    put_literal(text, &c.value)?;
     text.word(";\n")
 }
 
@@ -115,17 +105,12 @@ fn put_interface(
 
 /// Adds a declaration.
 #[tactic(auto, unfolding(crate::specs::Canonical::decl_text))]
-pub(crate) fn put_decl(
-    alloc: Global,
-    text: &mut TextBuffer,
-    schema: &Schema,
-    decl: Decl,
-) -> Result<(), AllocError>
+pub(crate) fn put_decl(text: &mut TextBuffer, schema: &Schema, decl: Decl) -> Result<(), AllocError>
     ensures { OnOk result (text.new ≡ text.old ++ decl_text schema.now decl) }
 {
     match decl {
         Decl::Struct(k) => match schema.structs().get(k as usize) {
-            Some(s) => put_struct(alloc, text, schema, s),
+            Some(s) => put_struct(text, schema, s),
             None => Ok(()),
         },
         Decl::Enum(k) => match schema.enums().get(k as usize) {
@@ -133,7 +118,7 @@ pub(crate) fn put_decl(
             None => Ok(()),
         },
         Decl::Const(k) => match schema.consts().get(k as usize) {
-            Some(c) => put_const(alloc, text, schema, c),
+            Some(c) => put_const(text, schema, c),
             None => Ok(()),
         },
         Decl::Key(k) => match schema.keys().get(k as usize) {

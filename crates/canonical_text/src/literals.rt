@@ -6,12 +6,12 @@ ghost use Rattle.tars_model.specs.declared.ty.Ty.{out-Ty};
 ghost use Rattle.tars_model.specs.declared.value.Value.{out-Value};
 ghost use Rattle.canonical_text.specs.Canonical.{byte_text, quoted, truth_word, literal_text, is_absent};
 
-use std::alloc::{AllocError, Global};
+use std::alloc::AllocError;
 use tars_model::{Schema, Ty, Value, first_number};
 use text_buffer::TextBuffer;
 
 #[tactic(auto, unfolding(crate::specs::Canonical::byte_text))]
-fn put_byte(alloc: Global, text: &mut TextBuffer, byte: u8) -> Result<(), AllocError>
+fn put_byte(text: &mut TextBuffer, byte: u8) -> Result<(), AllocError>
     ensures { OnOk result (text.new ≡ text.old ++ byte_text byte) }
 {
     match byte {
@@ -22,28 +22,27 @@ fn put_byte(alloc: Global, text: &mut TextBuffer, byte: u8) -> Result<(), AllocE
         0x20..=0x7E => text.put(&[byte]),
         _ => {
             text.word("\\x")?;
-            let digits = hex::encode_upper(alloc, &[byte])?;
-            text.put(digits.as_bytes())
+            text.put_hex(&[byte])
         }
     }
 }
 
-fn put_bytes(alloc: Global, text: &mut TextBuffer, bytes: &[u8]) -> Result<(), AllocError>
+fn put_bytes(text: &mut TextBuffer, bytes: &[u8]) -> Result<(), AllocError>
     ensures { OnOk result (text.new ≡ text.old ++ flat_map byte_text bytes.now) }
 {
     for byte in bytes {
-        put_byte(alloc, text, *byte)?;
+        put_byte(text, *byte)?;
     }
     Ok(())
 }
 
 /// Adds a text between quotation marks, with escapes.
 #[tactic(auto, unfolding(crate::specs::Canonical::quoted))]
-pub fn put_quoted(alloc: Global, text: &mut TextBuffer, bytes: &[u8]) -> Result<(), AllocError>
+pub fn put_quoted(text: &mut TextBuffer, bytes: &[u8]) -> Result<(), AllocError>
     ensures { OnOk result (text.new ≡ text.old ++ quoted bytes.now) }
 {
     text.word("\"")?;
-    put_bytes(alloc, text, bytes)?;
+    put_bytes(text, bytes)?;
     text.word("\"")
 }
 
@@ -55,17 +54,13 @@ pub fn truth_word(truth: bool) -> &'static str
 
 /// Adds the literal of a value that has one.
 #[tactic(auto, unfolding(crate::specs::Canonical::literal_text))]
-pub(crate) fn put_literal(
-    alloc: Global,
-    text: &mut TextBuffer,
-    value: &Value,
-) -> Result<(), AllocError>
+pub(crate) fn put_literal(text: &mut TextBuffer, value: &Value) -> Result<(), AllocError>
     ensures { OnOk result (text.new ≡ text.old ++ literal_text value.now) }
 {
     match value {
         Value::Bool(truth) => text.word(truth_word(*truth)),
         Value::Num(number) => text.show(*number),
-        Value::Text(bytes) => put_quoted(alloc, text, bytes),
+        Value::Text(bytes) => put_quoted(text, bytes),
         _ => Ok(()),
     }
 }

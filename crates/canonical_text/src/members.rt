@@ -6,7 +6,7 @@ ghost use Rattle.canonical_text.specs.Canonical.{requirement_word, default_text,
 
 use crate::literals::{is_absent, put_literal};
 use crate::types::put_type;
-use std::alloc::{AllocError, Global};
+use std::alloc::AllocError;
 use tars_model::{Item, Member, Schema};
 use text_buffer::TextBuffer;
 
@@ -17,24 +17,18 @@ fn requirement_word(require: bool) -> &'static str
 }
 
 #[tactic(auto, unfolding(crate::specs::Canonical::default_text))]
-fn put_default(
-    alloc: Global,
-    text: &mut TextBuffer,
-    schema: &Schema,
-    member: &Member,
-) -> Result<(), AllocError>
+fn put_default(text: &mut TextBuffer, schema: &Schema, member: &Member) -> Result<(), AllocError>
     ensures { OnOk result (text.new ≡ text.old ++ default_text schema.now member.now) }
 {
     if is_absent(schema, &member.ty, &member.default) {
         return Ok(());
     }
     text.word(" = ")?;
-    put_literal(alloc, text, &member.default)
+    put_literal(text, &member.default)
 }
 
 #[tactic(auto, unfolding(crate::specs::Canonical::member_line))]
 fn put_member(
-    alloc: Global,
     text: &mut TextBuffer,
     schema: &Schema,
     home: &[u8],
@@ -50,12 +44,11 @@ fn put_member(
     put_type(&member.ty, text, schema, home)?;
     text.word(" ")?;
     text.put(&member.name)?;
-    put_default(alloc, text, schema, member)?;
+    put_default(text, schema, member)?;
     text.word(";\n")
 }
 
 pub(crate) fn put_members(
-    alloc: Global,
     text: &mut TextBuffer,
     schema: &Schema,
     home: &[u8],
@@ -64,7 +57,7 @@ pub(crate) fn put_members(
     ensures { OnOk result (text.new ≡ text.old ++ flat_map (member_line schema.now home.now) members.now) }
 {
     for member in members {
-        put_member(alloc, text, schema, home, member)?;
+        put_member(text, schema, home, member)?;
     }
     Ok(())
 }

@@ -49,14 +49,14 @@ abbrev pub call_with : List Row → CallId → ℕ
 call_with [] id = 0
 call_with (row ∷ rows) id = if is_id id row.id then row.call else call_with rows id
 
--- `used K`, with the call that the packet settled, or `late`
-unfoldable pub fate_text : List Row → GotFate → List ℕ
-fate_text rows (Used id) = codes "used " ++ decimal (call_with rows id)
-fate_text rows (Late word) = codes "late"
+-- `used K`, with the number of the call that the packet settled, or `late`
+unfoldable pub fate_text : (CallId → ℕ) → GotFate → List ℕ
+fate_text call (Used id) = codes "used " ++ decimal (call id)
+fate_text call (Late word) = codes "late"
 
-unfoldable pub got_line : List Row → ℕ → ℕ → GotRow → List ℕ
-got_line rows node number row =
-    codes "got " ++ decimal node ++ codes " " ++ decimal number ++ codes " " ++ fate_text rows row.fate
+unfoldable pub got_line : (CallId → ℕ) → ℕ → ℕ → GotRow → List ℕ
+got_line call node number row =
+    codes "got " ++ decimal node ++ codes " " ++ decimal number ++ codes " " ++ fate_text call row.fate
     ++ codes " " ++ encode_upper row.packet ++ codes "\n"
 
 -- a line for each row, which is given its number
@@ -69,8 +69,8 @@ abbrev pub sent_lines : LinkLog → List ℕ
 sent_lines link = numbered_lines (sent_line link.node) 1 link.sent
 
 -- what was got from a node
-abbrev pub got_lines : List Row → LinkLog → List ℕ
-got_lines rows link = numbered_lines (got_line rows link.node) 1 link.got
+abbrev pub got_lines : (CallId → ℕ) → LinkLog → List ℕ
+got_lines call link = numbered_lines (got_line call link.node) 1 link.got
 
 -- `done calls C two-way T one-way O`
 unfoldable pub done_line : List Row → List ℕ
@@ -82,4 +82,4 @@ done_line rows =
 abbrev pub report_text_of : Session → Report → List ℕ
 report_text_of l report =
     flat_map (call_line l) report.calls ++ flat_map sent_lines report.links
-    ++ flat_map (got_lines report.calls) report.links ++ done_line report.calls
+    ++ flat_map (got_lines (call_with report.calls)) report.links ++ done_line report.calls

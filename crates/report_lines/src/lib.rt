@@ -2,9 +2,11 @@
 //! `specs/ReportText.antt`.
 #![tactic(auto)]
 
+mod call_index;
 mod calls;
 mod lines;
 mod links;
+mod room;
 mod text;
 
 pub use text::report_text;

@@ -1,5 +1,4 @@
-ghost use Rattle.std.specs.Prelude.{◌≡◌, [], ◌++◌, OnOk};
-ghost use Rattle.hex.specs.Hex.{encode_upper};
+ghost use Rattle.std.specs.Prelude.{◌≡◌, [], IfOk};
 
 use std::alloc::{AllocError, Global};
 use std::marker::Model;
@@ -8,7 +7,6 @@ use text_buffer::TextBuffer;
 /// The lines of a report so far.
 #[derive(Drop)]
 pub struct Lines {
-    alloc: Global,
     pub text: TextBuffer,
 }
 
@@ -21,27 +19,19 @@ impl Model for Lines {
 }
 
 impl Lines {
-    pub fn new(alloc: Global) -> Lines
-        ensures { result ≡ [] }
+    /// With room for so many bytes.
+    pub fn with_capacity(alloc: Global, bytes: usize) -> Result<Lines, AllocError>
+        ensures { IfOk result (λ lines. lines ≡ []) }
     {
-        Lines {
-            alloc,
-            text: TextBuffer::new(alloc),
-        }
+        Ok(Lines {
+            text: TextBuffer::with_capacity(alloc, bytes)?,
+        })
     }
 
     pub fn into_text(self) -> Vec<u8>
         ensures { result.items ≡ self }
     {
-        let Lines { alloc: _, text } = self;
+        let Lines { text } = self;
         text.into_bytes()
-    }
-
-    /// Adds bytes in hexadecimal.
-    pub fn put_hex(&mut self, bytes: &[u8]) -> Result<(), AllocError>
-        ensures { OnOk result (self.new ≡ self.old ++ encode_upper bytes.now) }
-    {
-        let digits = hex::encode_upper(self.alloc, bytes)?;
-        self.text.put(digits.as_bytes())
     }
 }

@@ -1,7 +1,9 @@
 ghost use Rattle.std.specs.Prelude.{◌≡◌, IfOk};
 ghost use Rattle.report_lines.specs.ReportText.{report_text_of};
 
+use crate::call_index::CallIndex;
 use crate::lines::Lines;
+use crate::room::room_of;
 use session_model::{Loaded, Report};
 use std::alloc::{AllocError, Global};
 
@@ -9,10 +11,12 @@ use std::alloc::{AllocError, Global};
 pub fn report_text(alloc: Global, loaded: &Loaded, report: &Report) -> Result<Vec<u8>, AllocError>
     ensures { IfOk result (λ text. text.items ≡ report_text_of loaded.now report.now) }
 {
-    let mut lines = Lines::new(alloc);
-    lines.put_calls(loaded.session(), report.calls.as_slice())?;
-    lines.put_sent(report.links.as_slice())?;
-    lines.put_got(report.calls.as_slice(), report.links.as_slice())?;
-    lines.put_done(report.calls.as_slice())?;
+    let (rows, links) = (report.calls.as_slice(), report.links.as_slice());
+    let index = CallIndex::of(alloc, rows)?;
+    let mut lines = Lines::with_capacity(alloc, room_of(rows, links))?;
+    lines.put_calls(loaded.session(), rows)?;
+    lines.put_sent(links)?;
+    lines.put_got(&index, links)?;
+    lines.put_done(rows)?;
     Ok(lines.into_text())
 }

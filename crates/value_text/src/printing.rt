@@ -11,19 +11,17 @@ use tars_model::{Member, Pair, Schema, Ty, Value};
 use text_buffer::TextBuffer;
 
 #[tactic(auto, unfolding(crate::specs::Printed::blob_text))]
-fn put_blob(alloc: Global, text: &mut TextBuffer, bytes: &[u8]) -> Result<(), AllocError>
+fn put_blob(text: &mut TextBuffer, bytes: &[u8]) -> Result<(), AllocError>
     ensures { OnOk result (text.new ≡ text.old ++ blob_text bytes.now) }
 {
     text.word("#")?;
-    let digits = hex::encode_upper(alloc, bytes)?;
-    text.put(digits.as_bytes())
+    text.put_hex(bytes)
 }
 
 /// Values of one type, with `, ` between them.
 #[cycle(printing)]
 fn put_values(
     values: &[Value],
-    alloc: Global,
     text: &mut TextBuffer,
     schema: &Schema,
     of: &Ty,
@@ -33,7 +31,7 @@ fn put_values(
     let mut separator = b"".as_slice();
     for value in values {
         text.put(separator)?;
-        put_value(value, alloc, text, schema, of)?;
+        put_value(value, text, schema, of)?;
         separator = b", ".as_slice();
     }
     Ok(())
@@ -42,7 +40,6 @@ fn put_values(
 #[cycle(printing)]
 fn put_list(
     values: &[Value],
-    alloc: Global,
     text: &mut TextBuffer,
     schema: &Schema,
     ty: &Ty,
@@ -52,7 +49,7 @@ fn put_list(
     match ty {
         Ty::Vector(of) => {
             text.word("[")?;
-            put_values(values, alloc, text, schema, of.get())?;
+            put_values(values, text, schema, of.get())?;
             text.word("]")
         }
         _ => Ok(()),
@@ -63,7 +60,6 @@ fn put_list(
 #[cycle(printing)]
 fn put_entry(
     pair: &Pair,
-    alloc: Global,
     text: &mut TextBuffer,
     schema: &Schema,
     key: &Ty,
@@ -71,15 +67,14 @@ fn put_entry(
 ) -> Result<(), AllocError>
     ensures { OnOk result (text.new ≡ text.old ++ entry_text ((entry_printing pair.now).0 schema.now key.now) ((entry_printing pair.now).1 schema.now to.now)) }
 {
-    put_value(&pair.key, alloc, text, schema, key)?;
+    put_value(&pair.key, text, schema, key)?;
     text.word(": ")?;
-    put_value(&pair.value, alloc, text, schema, to)
+    put_value(&pair.value, text, schema, to)
 }
 
 #[cycle(printing)]
 fn put_pairs(
     pairs: &[Pair],
-    alloc: Global,
     text: &mut TextBuffer,
     schema: &Schema,
     key: &Ty,
@@ -90,7 +85,7 @@ fn put_pairs(
     let mut separator = b"".as_slice();
     for pair in pairs {
         text.put(separator)?;
-        put_entry(pair, alloc, text, schema, key, to)?;
+        put_entry(pair, text, schema, key, to)?;
         separator = b", ".as_slice();
     }
     Ok(())
@@ -99,7 +94,6 @@ fn put_pairs(
 #[cycle(printing)]
 fn put_map(
     pairs: &[Pair],
-    alloc: Global,
     text: &mut TextBuffer,
     schema: &Schema,
     ty: &Ty,
@@ -109,7 +103,7 @@ fn put_map(
     match ty {
         Ty::Map(key, to) => {
             text.word("{")?;
-            put_pairs(pairs, alloc, text, schema, key.get(), to.get())?;
+            put_pairs(pairs, text, schema, key.get(), to.get())?;
             text.word("}")
         }
         _ => Ok(()),
@@ -121,7 +115,6 @@ fn put_map(
 #[tactic(auto, unfolding(crate::specs::Printed::member_text))]
 fn put_members(
     values: &[Value],
-    alloc: Global,
     text: &mut TextBuffer,
     schema: &Schema,
     members: &[Member],
@@ -133,7 +126,7 @@ fn put_members(
         text.put(separator)?;
         text.put(&member.name)?;
         text.word("=")?;
-        put_value(value, alloc, text, schema, &member.ty)?;
+        put_value(value, text, schema, &member.ty)?;
         separator = b", ".as_slice();
     }
     Ok(())
@@ -142,7 +135,6 @@ fn put_members(
 #[cycle(printing)]
 fn put_struct(
     values: &[Value],
-    alloc: Global,
     text: &mut TextBuffer,
     schema: &Schema,
     ty: &Ty,
@@ -152,7 +144,7 @@ fn put_struct(
     match ty {
         Ty::Struct(number) => {
             text.word("(")?;
-            put_members(values, alloc, text, schema, schema.members_at(*number))?;
+            put_members(values, text, schema, schema.members_at(*number))?;
             text.word(")")
         }
         _ => Ok(()),
@@ -163,7 +155,6 @@ fn put_struct(
 #[tactic(auto, using(crate::proofs::Layers::bool_printed, crate::proofs::Layers::num_printed, crate::proofs::Layers::text_printed, crate::proofs::Layers::blob_printed, crate::proofs::Layers::list_printed, crate::proofs::Layers::map_printed, crate::proofs::Layers::struct_printed))]
 fn put_value(
     value: &Value,
-    alloc: Global,
     text: &mut TextBuffer,
     schema: &Schema,
     ty: &Ty,
@@ -173,11 +164,11 @@ fn put_value(
     match value {
         Value::Bool(truth) => text.word(truth_word(*truth)),
         Value::Num(number) => text.show(*number),
-        Value::Text(bytes) => put_quoted(alloc, text, bytes.as_slice()),
-        Value::Blob(bytes) => put_blob(alloc, text, bytes.as_slice()),
-        Value::List(values) => put_list(values.as_slice(), alloc, text, schema, ty),
-        Value::Map(pairs) => put_map(pairs.as_slice(), alloc, text, schema, ty),
-        Value::Struct(values) => put_struct(values.as_slice(), alloc, text, schema, ty),
+        Value::Text(bytes) => put_quoted(text, bytes.as_slice()),
+        Value::Blob(bytes) => put_blob(text, bytes.as_slice()),
+        Value::List(values) => put_list(values.as_slice(), text, schema, ty),
+        Value::Map(pairs) => put_map(pairs.as_slice(), text, schema, ty),
+        Value::Struct(values) => put_struct(values.as_slice(), text, schema, ty),
     }
 }
 
@@ -192,6 +183,6 @@ pub fn print_value(
     ensures text { IfOk result (λ text. text.items ≡ printed schema.now ty.now value.now) }
 {
     let mut text = TextBuffer::new(alloc);
-    put_value(value, alloc, &mut text, schema, ty)?;
+    put_value(value, &mut text, schema, ty)?;
     Ok(text.into_bytes())
 }

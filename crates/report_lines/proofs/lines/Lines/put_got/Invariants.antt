@@ -1,10 +1,11 @@
 use Rattle.std.proofs.Common.{◌≡◌, ◌++◌, drop}
 use Rattle.std.specs.List.{flat_map}
+use Rattle.report_lines.specs.CallNumbers.{number_in}
 use Rattle.report_lines.specs.ReportText.{got_lines}
 use Rattle.report_lines.proofs.lines.Lines.put_got.Given as goal
 
 -- the lines so far and those of the links that are left
 abbrev pub invariant-loop-link : goal.invariant-loop-link
 invariant-loop-link l =
-    l.self ++ flat_map (got_lines l.rows) (drop l.link-index l.links)
-    ≡ l.initial.self ++ flat_map (got_lines l.rows) l.links
+    l.self ++ flat_map (got_lines (number_in l.calls)) (drop l.link-index l.links)
+    ≡ l.initial.self ++ flat_map (got_lines (number_in l.calls)) l.links
