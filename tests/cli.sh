@@ -269,7 +269,7 @@ case_of 'examples/typo.tars' 1 'refused typo.tars parse 5 50' '' check typo.tars
 case_of 'examples/item.txt' 0 "$(shown_for item.txt)" '' encode shop.tars Shop::Item item.txt
 case_of 'examples/shop_next.tars' 0 "$(shown_for shop_next.tars)" '' compat shop.tars shop_next.tars Shop::Item
 case_of 'examples/item.hex' 0 "$(shown_for item.hex)" '' decode shop.tars Shop::Item item.hex
-for plan in first late too_large refused typo; do
+for plan in first pieces late too_large refused typo; do
     shown=$(shown_for "$plan.plan")
     status=0
     case $plan in refused | typo) status=1 ;; esac

@@ -1,21 +1,24 @@
 -- Events: what is read is so written, and what is so written is read.
-use Rattle.std.proofs.Common.{◌≡◌, ℕ, ◌≤◌, Bool, true, false, cond, List, [], ◌∷◌, ◌++◌, length, codes, map, Some, refl, sym, ap, ◌∙◌, append_assoc, arith, ◌⊎◌, inl, inr}
+use Rattle.std.proofs.Common.{◌≡◌, ℕ, ◌≤◌, eqb, eqb-true, Option, None, Bool, true, false, cond, List, [], ◌∷◌, ◌++◌, length, codes, map, Some, refl, sym, ap, ◌∙◌, append_assoc, arith, ◌⊎◌, inl, inr}
 use Rattle.std.specs.List.{AllByRecursion}
 use Rattle.std.specs.Str.{bytes_eq}
 use Rattle.std.proofs.lemmas.List.Folds.{list_all-append}
 use Rattle.std.proofs.lemmas.Slice.Eq.{bytes_eq-Decides}
-use Rattle.script_text.specs.Words.{is_letter, IsName, is_number}
-use Rattle.script_text.specs.Reading.{int_of, EventValue, event_meant}
+use Rattle.script_text.specs.Words.{is_letter, is_digit, IsName, is_number}
+use Rattle.script_text.specs.Reading.{int_of, EventValue, event_meant, bytes_meant}
 use Rattle.script_text.specs.Reading as value
 use Rattle.facts.specs.OptionSteps.{◌>>=◌}
-use Rattle.script_text.specs.ScriptText.{EventText, event_line, IsEvent}
+use Rattle.script_text.specs.ScriptText.{EventText, event_line, bytes_said, IsBytes, IsEvent}
 use Rattle.script_text.specs.TextLimits.{MAX_LINE}
 use Rattle.script_text.specs.ScriptText as script
-use Rattle.script_text.specs.ScriptSteps.{call_on, event_on, short, events_on}
+use Rattle.script_text.specs.NumberSteps.{natural}
+use Rattle.script_text.specs.ScanSteps.{after}
+use Rattle.std.specs.Option.{option_map}
+use Rattle.script_text.specs.ScriptSteps.{bytes_on, serve_on, deliver_on, read_on, or_else, call_on, event_on, short, events_on}
 use Rattle.facts.proofs.OptionLaws.{bind_some, bind_is, some_is}
-use Rattle.script_text.proofs.Readers.{IsWhole, skip_whole, before_prefix, and_whole, map_whole}
+use Rattle.script_text.proofs.Readers.{lacks, IsWhole, skip_whole, before_prefix, and_whole, map_whole}
 use Rattle.script_text.proofs.Names.{lacks_from, name_before_prefix}
-use Rattle.script_text.proofs.Numbers.{number_whole, number_lacks}
+use Rattle.script_text.proofs.Numbers.{natural_whole, natural_lacks, number_whole, number_lacks}
 use Rattle.script_text.proofs.Lines.{IsPlain}
 use Rattle.script_text.proofs.LineReaders.{short_takes, short_again}
 
@@ -43,12 +46,55 @@ call_written_is : (func a b : List ℕ) → call_written (func, (a, b)) ≡ even
 unfolding event_line
 call_written_is func a b = simp append_assoc
 
--- ---- an event
+-- ---- how many bytes are read
 
 -- a choice by a test
 choice : {A : Type 0} (b : Bool) (x y z : A) → cond b x y ≡ z → ((b ≡ true) × (x ≡ z)) ⊎ ((b ≡ false) × (y ≡ z))
 choice true x y z e = inl (refl, e)
 choice false x y z e = inr (refl, e)
+
+-- what was read and marked as read
+marked : {A : Type 0} (read : Option A) (v : Option A) → option_map Some read ≡ Some v → (a : A) × (read ≡ Some a) × (v ≡ Some a)
+marked None v e = absurd cc
+marked (Some a) v e = (a, refl, sym (some_is (Some a) v e))
+
+bytes_take : (text : List ℕ) (v : Option ℕ) → bytes_on text ≡ Some v → (t : Option (List ℕ)) × (text ≡ bytes_said t) × IsBytes t × (v ≡ bytes_meant t)
+unfolding bytes_on
+bytes_take [] v e = (None, refl, tt, sym (some_is None v e))
+bytes_take (c ∷ digits) v e =
+    elim (choice (eqb c 32) (option_map Some (natural digits)) None (Some v) e) [
+      | inl space ↦
+          let m = marked (natural digits) v space.1 in
+          let n = natural_whole.takes digits m.0 m.1 in
+          (Some n.0, cc (eqb-true c 32 space.0, n.1), n.2, m.2 ∙ ap Some n.3)
+      | inr other ↦ absurd (none_some v other.1)
+    ]
+  where
+    none_some : (v : Option ℕ) → None ≡ Some v → ⊥
+    none_some v e = cc
+
+bytes_again : (t : Option (List ℕ)) → IsBytes t → bytes_on (bytes_said t) ≡ Some (bytes_meant t)
+unfolding bytes_on
+bytes_again None is = refl
+bytes_again (Some digits) is = ap (option_map Some) (natural_whole.again digits is)
+
+bytes_whole : IsWhole bytes_on bytes_said IsBytes bytes_meant
+bytes_whole = record { takes = bytes_take; again = bytes_again }
+
+serve_whole : IsWhole serve_on (λ t. codes "serve 1" ++ bytes_said t) IsBytes (λ t. value.serve (bytes_meant t))
+unfolding serve_on
+serve_whole = skip_whole (codes "serve 1") (map_whole value.serve bytes_whole)
+
+deliver_whole : IsWhole deliver_on (λ t. codes "deliver 1" ++ bytes_said t) IsBytes (λ t. value.deliver (bytes_meant t))
+unfolding deliver_on
+deliver_whole = skip_whole (codes "deliver 1") (map_whole value.deliver bytes_whole)
+
+-- ---- an event
+
+-- the first of two readings, or the other
+either : {A : Type 0} (first other : Option A) (v : A) → or_else first other ≡ Some v → (first ≡ Some v) ⊎ (other ≡ Some v)
+either (Some a) other v e = inl e
+either None other v e = inr e
 
 -- the event that a line says, with what it means
 abbrev Says : List ℕ → EventValue → Type 0
@@ -63,33 +109,48 @@ call_says line v e =
     let c = call_whole.takes line v e in
     (script.call c.0.0 c.0.1.0 c.0.1.1, c.1 ∙ call_written_is c.0.0 c.0.1.0 c.0.1.1, (c.2.0, c.2.1.0, c.2.1.1), c.3)
 
+read_says : (line : List ℕ) (v : EventValue) → read_on line ≡ Some v → Says line v
+unfolding read_on event_line
+read_says line v e =
+    elim (either (serve_on line) (deliver_on line) v e) [
+      | inl serves ↦ let t = serve_whole.takes line v serves in (script.serve t.0, t.1, t.2, t.3)
+      | inr delivers ↦ let t = deliver_whole.takes line v delivers in (script.deliver t.0, t.1, t.2, t.3)
+    ]
+
 event_takes : (line : List ℕ) (v : EventValue) → event_on line ≡ Some v → Says line v
 unfolding event_on event_line
 event_takes line v e =
-    elim (choice (bytes_eq line (codes "serve 1")) _ _ (Some v) e) [
-      | inl is ↦ word_says line (codes "serve 1") script.serve v is.0 is.1 refl tt
-      | inr other ↦ elim (choice (bytes_eq line (codes "work 1")) _ _ (Some v) other.1) [
-        | inl is ↦ word_says line (codes "work 1") script.work v is.0 is.1 refl tt
-        | inr other ↦ elim (choice (bytes_eq line (codes "deliver 1")) _ _ (Some v) other.1) [
-          | inl is ↦ word_says line (codes "deliver 1") script.deliver v is.0 is.1 refl tt
-          | inr other ↦ elim (choice (bytes_eq line (codes "close")) _ _ (Some v) other.1) [
-            | inl is ↦ word_says line (codes "close") script.close v is.0 is.1 refl tt
-            | inr other ↦ call_says line v other.1
-          ]
+    elim (choice (bytes_eq line (codes "work 1")) _ _ (Some v) e) [
+      | inl is ↦ word_says line (codes "work 1") script.work v is.0 is.1 refl tt
+      | inr other ↦ elim (choice (bytes_eq line (codes "close")) _ _ (Some v) other.1) [
+        | inl is ↦ word_says line (codes "close") script.close v is.0 is.1 refl tt
+        | inr other ↦ elim (either (read_on line) (call_on line) v other.1) [
+          | inl reads ↦ read_says line v reads
+          | inr calls ↦ call_says line v calls
         ]
       ]
     ]
 
 event_again : (t : EventText) → IsEvent t → event_on (event_line t) ≡ Some (event_meant t)
-unfolding event_on event_line
+unfolding event_on event_line read_on serve_on deliver_on after
 event_again (script.call func a b) is = ap call_on (sym (call_written_is func a b)) ∙ call_whole.again (func, (a, b)) (is.0, (is.1, is.2))
-event_again script.serve is = refl
+event_again (script.serve bytes) is =
+    ap (λ (read : Option EventValue). or_else (or_else read (deliver_on (codes "serve 1" ++ bytes_said bytes))) (call_on (codes "serve 1" ++ bytes_said bytes))) (serve_whole.again bytes is)
 event_again script.work is = refl
-event_again script.deliver is = refl
+event_again (script.deliver bytes) is =
+    ap (λ (read : Option EventValue). or_else read (call_on (codes "deliver 1" ++ bytes_said bytes))) (deliver_whole.again bytes is)
 event_again script.close is = refl
 
 pub event_whole : IsWhole event_on event_line IsEvent event_meant
 event_whole = record { takes = event_takes; again = event_again }
+
+-- a byte that stands in no word and no number
+bytes_lack : (c : ℕ) (t : Option (List ℕ)) → is_digit c ≡ false → lacks c (codes " ") ≡ true → IsBytes t → lacks c (bytes_said t) ≡ true
+bytes_lack c None other space is = refl
+bytes_lack c (Some digits) other space is = let none = natural_lacks c digits other is.form in simp (space, none)
+
+and_lacks : (c : ℕ) (word : List ℕ) (t : Option (List ℕ)) → is_digit c ≡ false → lacks c (codes " ") ≡ true → lacks c word ≡ true → IsBytes t → lacks c (word ++ bytes_said t) ≡ true
+and_lacks c word t other space plain is = simp (list_all-append, plain, bytes_lack c t other space is)
 
 pub event_plain : (t : EventText) → IsEvent t → IsPlain (event_line t)
 unfolding event_line
@@ -98,9 +159,9 @@ event_plain (script.call func a b) is =
     let first = number_lacks 10 a refl refl is.1 in
     let second = number_lacks 10 b refl refl is.2 in
     (simp (list_all-append, name, first, second), omega arith)
-event_plain script.serve is = (refl, omega arith)
+event_plain (script.serve bytes) is = (and_lacks 10 (codes "serve 1") bytes refl refl refl is, omega arith)
 event_plain script.work is = (refl, omega arith)
-event_plain script.deliver is = (refl, omega arith)
+event_plain (script.deliver bytes) is = (and_lacks 10 (codes "deliver 1") bytes refl refl refl is, omega arith)
 event_plain script.close is = (refl, omega arith)
 
 -- ---- all events

@@ -6,11 +6,12 @@ use Rattle.std.specs.List.{list_all}
 use Rattle.std.specs.Result.{result_ok}
 use Rattle.std.specs.Str.{IsAscii}
 use Rattle.std.specs.Str.Parse.{digits_value, ParsesUnsigned, ParsesSigned}
-use Rattle.std.proofs.lemmas.Bool.{and_parts, and_from, and_right, cond-true, cond-false, leb-true, lt-ltb, le-ltb, cases_lt, le-leb, eqb-true, eq-eqb, cases_Bool, not_from_false}
+use Rattle.std.proofs.lemmas.Bool.{and_parts, and_from, and_right, cond-true, cond-false, leb-true, ltb-true, lt-ltb, le-ltb, cases_lt, le-leb, eqb-true, eq-eqb, cases_Bool, not_from_false}
 use Rattle.std.proofs.lemmas.Str.{IsUtf8-from_ascii}
 use Rattle.std.proofs.lemmas.Str.Ascii.{IsAscii-nil, IsAscii-cons}
 use Rattle.std.proofs.lemmas.Str.Parse.{IsNumeralModel, numerals_by_value, parse_digits, parse_signed_digits, parse_signed_minus}
 use Rattle.std.proofs.lemmas.Option.{cond_some}
+use Rattle.script_text.specs.TextLimits.{MAX_BYTES}
 use Rattle.script_text.specs.Words.{is_digit, is_natural, is_number, number_of, IsNaturalWithin}
 use Rattle.script_text.specs.ScanSteps.{Gives}
 use Rattle.script_text.specs.NumberSteps.{natural, natural_within, number}
@@ -141,6 +142,17 @@ natural_within_whole low high fits = record {
   again = λ t is.
       let n : natural t ≡ Some (digits_value 10 t) = cond-true (is_natural t && ltb (digits_value 10 t) (2 ^ 32)) _ _ (and_from _ _ is.form (lt-ltb _ _ (omega (arith, is.high_end)))) in
       bind_is _ (λ n. cond (leb low n && leb n high) (Some n) None) (digits_value 10 t) n ∙ cond-true (leb low (digits_value 10 t) && leb (digits_value 10 t) high) _ _ (and_from _ _ (le-leb _ _ is.low_end) (le-leb _ _ is.high_end));
+}
+
+pub natural_whole : IsWhole natural (λ (text : List ℕ). text) (IsNaturalWithin 0 MAX_BYTES) (digits_value 10)
+unfolding natural
+natural_whole = record {
+  takes = λ bytes v e.
+      let n = cond_some (is_natural bytes && ltb (digits_value 10 bytes) (2 ^ 32)) (digits_value 10 bytes) v e in
+      let parts = and_parts (is_natural bytes) (ltb (digits_value 10 bytes) (2 ^ 32)) n.0 in
+      let small = ltb-true (digits_value 10 bytes) (2 ^ 32) parts.1 in
+      (bytes, refl, record { form = parts.0; low_end = omega arith; high_end = omega (arith, small) }, sym n.1);
+  again = λ t is. cond-true (is_natural t && ltb (digits_value 10 t) (2 ^ 32)) _ _ (and_from _ _ is.form (lt-ltb _ _ (omega (arith, is.high_end))));
 }
 
 pub number_whole : IsWhole number (λ (text : List ℕ). text) (λ (text : List ℕ). is_number text ≡ true) int_of

@@ -70,9 +70,9 @@ id_is o = simp append_assoc
 
 same_call : (t : EventText) → is_call t ≡ is_call_value (event_meant t)
 same_call (script.call func a b) = refl
-same_call script.serve = refl
+same_call (script.serve bytes) = refl
 same_call script.work = refl
-same_call script.deliver = refl
+same_call (script.deliver bytes) = refl
 same_call script.close = refl
 
 calls_from : (n : ℕ) (ts : List EventText) → fold (λ k t. k + cond (is_call t) 1 0) n ts ≡ fold (λ k v. k + cond (is_call_value v) 1 0) n (map event_meant ts)

@@ -13,28 +13,33 @@ use Rattle.tars_model.specs.Ranges.{is_int}
 unfoldable pub int_of : List ℕ → Option ℤ
 int_of text = if is_int (number_of text) then Some (number_of text) else None
 
--- an event, with each number as an int if it is one
+-- an event, with each number of a call as an int if it is one, and how many bytes are read if a number is given
 pub data EventValue : Type 0 where
   call : List ℕ → Option ℤ → Option ℤ → EventValue
-  serve : EventValue
+  serve : Option ℕ → EventValue
   work : EventValue
-  deliver : EventValue
+  deliver : Option ℕ → EventValue
   close : EventValue
 
 -- the event that the enum holds
 abbrev pub event_of : EventEnum → EventValue
 event_of (events.Call func first second) = call func.now first second
-event_of events.Serve = serve
+event_of (events.Serve bytes) = serve bytes
 event_of events.Work = work
-event_of events.Deliver = deliver
+event_of (events.Deliver bytes) = deliver bytes
 event_of events.Close = close
+
+-- how many bytes are meant
+abbrev pub bytes_meant : Option (List ℕ) → Option ℕ
+bytes_meant None = None
+bytes_meant (Some digits) = Some (digits_value 10 digits)
 
 -- the event that a line means
 abbrev pub event_meant : EventText → EventValue
 event_meant (script.call func a b) = call func (int_of a) (int_of b)
-event_meant script.serve = serve
+event_meant (script.serve bytes) = serve (bytes_meant bytes)
 event_meant script.work = work
-event_meant script.deliver = deliver
+event_meant (script.deliver bytes) = deliver (bytes_meant bytes)
 event_meant script.close = close
 
 -- the struct of a script holds what the text means

@@ -1,6 +1,6 @@
 -- For the proofs: how a script is read, step by step, as the functions of src/script do. What a script is stands in
 -- specs/ScriptText.antt.
-use Rattle.std.specs.Prelude.{ℕ, Bool, true, false, ◌&&◌, ◌||◌, ◌==◌, not, nat_le, nat_lt, if◌then◌else◌, List, [], ◌∷◌, length, map, count_by, Option, Some, None, codes}
+use Rattle.std.specs.Prelude.{ℕ, Bool, true, false, ◌&&◌, ◌||◌, ◌==◌, not, nat_le, nat_lt, if◌then◌else◌, List, [], ◌∷◌, length, map, count_by, option_map, Option, Some, None, codes}
 use Rattle.std.specs.List.{list_all, before_first, after_first, onto_first}
 use Rattle.std.specs.Str.{bytes_eq}
 use Rattle.script_text.specs.declared.script.ScriptText.{ScriptText}
@@ -8,13 +8,13 @@ use Rattle.script_text.specs.declared.script.object.ObjectText.{ObjectText}
 use Rattle.script_text.specs.declared.script.header.Header.{Header}
 use Rattle.script_text.specs.declared.script.header.InterfaceName.{InterfaceName}
 use Rattle.script_text.specs.declared.script.header.RuleText.{RuleText}
-use Rattle.script_text.specs.NumberSteps.{natural_within, number}
+use Rattle.script_text.specs.NumberSteps.{natural, natural_within, number}
 use Rattle.script_text.specs.Reading.{EventValue, event_of, call, serve, work, deliver, close}
 use Rattle.script_text.specs.TextLimits.{MAX_LINE, MAX_CALLS, MAX_PORT, MAX_TIMEOUT}
 use Rattle.tars_base.specs.Limits.{MAX_FILE}
 use Rattle.script_text.specs.ScriptText.{is_part_byte, is_host_byte}
 use Rattle.facts.specs.OptionSteps.{◌>>=◌}
-use Rattle.script_text.specs.ScanSteps.{Whole, Prefix, tested, skip, before, within, ◌&◌, ◌&>◌, name, name_before, utf8}
+use Rattle.script_text.specs.ScanSteps.{Whole, Prefix, after, tested, skip, before, within, ◌&◌, ◌&>◌, name, name_before, utf8}
 
 -- the first line, without its line feed; the last one may have none
 unfoldable pub line_at : Prefix (List ℕ)
@@ -144,11 +144,37 @@ call_on line = do
   words ← skip (codes "call 1 ") (name_before (codes " ") &> (before (codes " ") number &> number)) line
   Some (call words.0 words.1.0 words.1.1)
 
+-- nothing, or a space and how many bytes
+unfoldable pub bytes_on : Whole (Option ℕ)
+bytes_on [] = Some None
+bytes_on (c ∷ digits) = if c == 32 then option_map Some (natural digits) else None
+
+unfoldable pub serve_on : Whole EventValue
+serve_on line = do
+  rest ← after (codes "serve 1") line
+  bytes ← bytes_on rest
+  Some (serve bytes)
+
+unfoldable pub deliver_on : Whole EventValue
+deliver_on line = do
+  rest ← after (codes "deliver 1") line
+  bytes ← bytes_on rest
+  Some (deliver bytes)
+
+-- the first of two readings that reads something
+abbrev pub or_else : {V : Type 0} → Option V → Option V → Option V
+or_else (Some v) other = Some v
+or_else None other = other
+
+-- one side reads from its stream
+unfoldable pub read_on : Whole EventValue
+read_on line = or_else (serve_on line) (deliver_on line)
+
 -- the event of a line
 unfoldable pub event_on : Whole EventValue
 event_on line =
-    if bytes_eq line (codes "serve 1") then Some serve else (if bytes_eq line (codes "work 1") then Some work
-    else (if bytes_eq line (codes "deliver 1") then Some deliver else (if bytes_eq line (codes "close") then Some close else call_on line)))
+    if bytes_eq line (codes "work 1") then Some work
+    else (if bytes_eq line (codes "close") then Some close else or_else (read_on line) (call_on line))
 
 -- the event of the first line
 unfoldable pub event_at : Prefix EventValue

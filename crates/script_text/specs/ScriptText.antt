@@ -1,16 +1,16 @@
 -- The scripts that are accepted (docs/SCRIPTS.md, "Accepted scripts").
-use Rattle.std.specs.Prelude.{◌≡◌, ◌≤◌, ℕ, Bool, true, false, ◌||◌, ◌==◌, not, ◌⊎◌, List, ◌∷◌, ◌++◌, length, map, count_by, codes, IsUtf8}
+use Rattle.std.specs.Prelude.{◌≡◌, ◌≤◌, ℕ, Bool, true, false, ◌||◌, ◌==◌, not, ◌⊎◌, Option, Some, None, List, [], ◌∷◌, ◌++◌, length, map, count_by, codes, IsUtf8}
 use Rattle.std.specs.List.{list_all, flat_map, AllByRecursion}
 use Rattle.script_text.specs.Words.{is_letter, is_digit, IsName, is_number, IsNaturalWithin}
-use Rattle.script_text.specs.TextLimits.{MAX_LINE, MAX_CALLS, MAX_PORT, MAX_TIMEOUT}
+use Rattle.script_text.specs.TextLimits.{MAX_LINE, MAX_CALLS, MAX_BYTES, MAX_PORT, MAX_TIMEOUT}
 use Rattle.tars_base.specs.Limits.{MAX_FILE}
 
--- an event, as its line says it; the numbers of a call are texts
+-- an event, as its line says it; the numbers of a call are texts, and so is how many bytes are read, where a line says it
 pub data EventText : Type 0 where
   call : List ℕ → List ℕ → List ℕ → EventText
-  serve : EventText
+  serve : Option (List ℕ) → EventText
   work : EventText
-  deliver : EventText
+  deliver : Option (List ℕ) → EventText
   close : EventText
 
 -- an object with its one node; the port and the timeout are texts
@@ -51,11 +51,16 @@ object_line o =
 unfoldable pub servant_line : ScriptText → List ℕ
 servant_line s = codes "servant " ++ s.func ++ codes " add " ++ s.left ++ codes " " ++ s.right
 
+-- how many bytes are read, after the event's word and its node
+abbrev pub bytes_said : Option (List ℕ) → List ℕ
+bytes_said None = []
+bytes_said (Some digits) = codes " " ++ digits
+
 unfoldable pub event_line : EventText → List ℕ
 event_line (call func a b) = codes "call 1 " ++ func ++ codes " " ++ a ++ codes " " ++ b
-event_line serve = codes "serve 1"
+event_line (serve bytes) = codes "serve 1" ++ bytes_said bytes
 event_line work = codes "work 1"
-event_line deliver = codes "deliver 1"
+event_line (deliver bytes) = codes "deliver 1" ++ bytes_said bytes
 event_line close = codes "close"
 
 -- the four header lines, then a line for each event
@@ -92,8 +97,15 @@ pub record IsObject (o : ObjectText) : Type 0 where
   pub port : IsNaturalWithin 1 MAX_PORT o.port
   pub timeout : IsNaturalWithin 1 MAX_TIMEOUT o.timeout
 
+-- nothing, or a number below 2 ^ 32
+abbrev pub IsBytes : Option (List ℕ) → Type 0
+IsBytes None = Unit {0}
+IsBytes (Some digits) = IsNaturalWithin 0 MAX_BYTES digits
+
 abbrev pub IsEvent : EventText → Type 0
 IsEvent (call func a b) = IsName func × (is_number a ≡ true) × (is_number b ≡ true)
+IsEvent (serve bytes) = IsBytes bytes
+IsEvent (deliver bytes) = IsBytes bytes
 IsEvent _ = Unit {0}
 
 abbrev pub is_call : EventText → Bool

@@ -1,5 +1,5 @@
 -- How long the lines, names and numbers of a script may be (docs/SCRIPTS.md, "Accepted scripts").
-use Rattle.std.specs.Prelude.{ℕ}
+use Rattle.std.specs.Prelude.{ℕ, ◌^◌, ◌-◌}
 
 -- the bytes of a line, without its line feed
 abbrev pub MAX_LINE : ℕ
@@ -20,3 +20,7 @@ MAX_PORT = 65535
 -- how long a call may take, in milliseconds: an hour
 abbrev pub MAX_TIMEOUT : ℕ
 MAX_TIMEOUT = 3600000
+
+-- how many bytes a line can ask for
+abbrev pub MAX_BYTES : ℕ
+MAX_BYTES = 2 ^ 32 - 1

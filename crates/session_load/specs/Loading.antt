@@ -1,5 +1,5 @@
 -- What loading a script gives (docs/SCRIPTS.md, "Loading").
-use Rattle.std.specs.Prelude.{ℕ, ◌+◌, true, false, if◌then◌else◌, None, List, [], ◌∷◌}
+use Rattle.std.specs.Prelude.{ℕ, ◌+◌, true, false, if◌then◌else◌, List, [], ◌∷◌}
 use Rattle.std.specs.Str.{bytes_eq}
 use Rattle.std.specs.Str.Parse.{digits_value}
 use Rattle.schema_files.specs.FileReading.{ReadsFile}
@@ -7,6 +7,7 @@ use Rattle.schema_files.specs.FileReading as file
 use Rattle.schema_files.specs.Refusals.{refusal_line}
 use Rattle.schema_files.specs.SchemaLoading.{LoadsSchema}
 use Rattle.schema_files.specs.SchemaLoading as schema
+use Rattle.script_text.specs.Reading.{bytes_meant}
 use Rattle.script_text.specs.ScriptText.{ScriptText, IsScriptText, EventText, call, serve, work, deliver, close, object_id}
 use Rattle.script_text.specs.Words.{number_of}
 use Rattle.session_load.specs.Agreement.{Target, Agree}
@@ -29,14 +30,14 @@ abbrev pub two_way_call : ℕ → ℕ → List Value → CallSpec
 two_way_call func n args =
     record { call = n; line = 1; func = func; two_way = true; begin = false; key = 0; args = args }
 
--- calls are numbered from a first number on; a read takes all that waits
+-- calls are numbered from a first number on
 abbrev pub events_from : ℕ → ℕ → List EventText → List Event
 events_from func n [] = []
 events_from func n (call name a b ∷ events) =
     Call (two_way_call func n (Num (number_of a) ∷ Num (number_of b) ∷ [])) ∷ events_from func (n + 1) events
-events_from func n (serve ∷ events) = Serve NODE None ∷ events_from func n events
+events_from func n (serve bytes ∷ events) = Serve NODE (bytes_meant bytes) ∷ events_from func n events
 events_from func n (work ∷ events) = Work NODE ∷ events_from func n events
-events_from func n (deliver ∷ events) = Deliver NODE None ∷ events_from func n events
+events_from func n (deliver bytes ∷ events) = Deliver NODE (bytes_meant bytes) ∷ events_from func n events
 events_from func n (close ∷ events) = Close ∷ events_from func n events
 
 -- the index of a parameter among the arguments

@@ -101,9 +101,9 @@ call_with func n a b = two_way_call func n (Num a ∷ Num b ∷ [])
 unfoldable pub event_in : List ℕ → ℕ → ℕ → EventValue → Option Event
 event_in own func n (call name (Some a) (Some b)) = if bytes_eq name own then Some (Call (call_with func n a b)) else None
 event_in own func n (call name _ _) = None
-event_in own func n serve = Some (Serve NODE None)
+event_in own func n (serve bytes) = Some (Serve NODE bytes)
 event_in own func n work = Some (Work NODE)
-event_in own func n deliver = Some (Deliver NODE None)
+event_in own func n (deliver bytes) = Some (Deliver NODE bytes)
 event_in own func n close = Some Close
 
 -- the number of the call that comes after an event

@@ -3,11 +3,11 @@
 ghost use Rattle.std.specs.Prelude.{◌<◌, length, IfSome};
 ghost use Rattle.script_text.specs.Reading.{event_of};
 ghost use Rattle.script_text.specs.ScanSteps.{Gives};
-ghost use Rattle.script_text.specs.ScriptSteps.{call_on, event_on, event_at};
+ghost use Rattle.script_text.specs.ScriptSteps.{bytes_on, serve_on, deliver_on, read_on, call_on, event_on, event_at};
 
 use crate::scan::{after, name_before, word_before};
 use crate::script::lines::split_line;
-use crate::script::numbers::{int_of, is_number};
+use crate::script::numbers::{int_of, is_number, natural};
 
 /// What a line after the header says.
 #[derive(Clone, Copy)]
@@ -18,9 +18,15 @@ pub enum EventText<'a> {
         first: Option<i32>,
         second: Option<i32>,
     },
-    Serve,
+    /// The node reads the next bytes that wait, so many at most where a number is given.
+    Serve {
+        bytes: Option<u32>,
+    },
     Work,
-    Deliver,
+    /// The caller reads the next bytes that wait, so many at most where a number is given.
+    Deliver {
+        bytes: Option<u32>,
+    },
     Close,
 }
 
@@ -40,20 +46,57 @@ fn read_call(line: &[u8]) -> Option<EventText<'_>>
     })
 }
 
+/// Nothing, or a space and how many bytes.
+#[tactic(auto, unfolding(crate::specs::ScriptSteps::bytes_on))]
+fn read_bytes(text: &[u8]) -> Option<Option<u32>>
+    ensures { Gives (λ bytes. bytes) result (bytes_on text.now) }
+{
+    match text {
+        [] => Some(None),
+        [b' ', digits @ ..] => Some(Some(natural(digits)?)),
+        _ => None,
+    }
+}
+
+#[tactic(auto, unfolding(crate::specs::ScriptSteps::serve_on))]
+fn read_serve(line: &[u8]) -> Option<EventText<'_>>
+    ensures { Gives event_of result (serve_on line.now) }
+{
+    let bytes = read_bytes(after(line, b"serve 1")?)?;
+    Some(EventText::Serve { bytes })
+}
+
+#[tactic(auto, unfolding(crate::specs::ScriptSteps::deliver_on))]
+fn read_deliver(line: &[u8]) -> Option<EventText<'_>>
+    ensures { Gives event_of result (deliver_on line.now) }
+{
+    let bytes = read_bytes(after(line, b"deliver 1")?)?;
+    Some(EventText::Deliver { bytes })
+}
+
+#[tactic(auto, unfolding(crate::specs::ScriptSteps::read_on))]
+fn read_stream(line: &[u8]) -> Option<EventText<'_>>
+    ensures { Gives event_of result (read_on line.now) }
+{
+    match read_serve(line) {
+        Some(event) => Some(event),
+        None => read_deliver(line),
+    }
+}
+
 #[tactic(auto, unfolding(crate::specs::ScriptSteps::event_on))]
 fn read_event(line: &[u8]) -> Option<EventText<'_>>
     ensures { Gives event_of result (event_on line.now) }
 {
-    if line == b"serve 1".as_slice() {
-        Some(EventText::Serve)
-    } else if line == b"work 1".as_slice() {
-        Some(EventText::Work)
-    } else if line == b"deliver 1".as_slice() {
-        Some(EventText::Deliver)
-    } else if line == b"close".as_slice() {
-        Some(EventText::Close)
-    } else {
-        read_call(line)
+    if line == b"work 1".as_slice() {
+        return Some(EventText::Work);
+    }
+    if line == b"close".as_slice() {
+        return Some(EventText::Close);
+    }
+    match read_stream(line) {
+        Some(event) => Some(event),
+        None => read_call(line),
     }
 }
 

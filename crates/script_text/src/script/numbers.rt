@@ -35,8 +35,9 @@ pub fn is_number(text: &[u8]) -> bool
     }
 }
 
+/// The number that the digits mean, if it is below 2^32.
 #[tactic(auto, unfolding(crate::specs::NumberSteps::natural))]
-fn natural(text: &[u8]) -> Option<u32>
+pub fn natural(text: &[u8]) -> Option<u32>
     ensures { Gives (λ n. n) result (natural text.now) }
 {
     if !is_natural(text) {

@@ -32,7 +32,7 @@ few_events s bytes h = by_end h.lines
 pub as_many : (func n : ℕ) (es : List EventText) → length (events_from func n es) ≡ length es
 as_many func n [] = refl
 as_many func n (call name a b ∷ es) = let rest = as_many func (n + 1) es in omega (arith, rest)
-as_many func n (serve ∷ es) = let rest = as_many func n es in omega (arith, rest)
+as_many func n (serve bytes ∷ es) = let rest = as_many func n es in omega (arith, rest)
 as_many func n (work ∷ es) = let rest = as_many func n es in omega (arith, rest)
-as_many func n (deliver ∷ es) = let rest = as_many func n es in omega (arith, rest)
+as_many func n (deliver bytes ∷ es) = let rest = as_many func n es in omega (arith, rest)
 as_many func n (close ∷ es) = let rest = as_many func n es in omega (arith, rest)

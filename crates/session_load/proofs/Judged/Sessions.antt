@@ -86,9 +86,9 @@ module _ (s : ScriptText) (d : Declared) (t : Target) (h : IsTarget s d t) where
     are_events : (n : ℕ) (es : List EventText) → AllByRecursion (IsEventOf s.func) es → AllByRecursion (IsEvent own) (events_from t.func n es)
     are_events n [] each = tt
     are_events n (call name a b ∷ es) each = (is_call n a b each.0.1 each.0.2, are_events (n + 1) es each.1)
-    are_events n (serve ∷ es) each = (tt, are_events n es each.1)
+    are_events n (serve bytes ∷ es) each = (tt, are_events n es each.1)
     are_events n (work ∷ es) each = (tt, are_events n es each.1)
-    are_events n (deliver ∷ es) each = (tt, are_events n es each.1)
+    are_events n (deliver bytes ∷ es) each = (tt, are_events n es each.1)
     are_events n (close ∷ es) each = (tt, are_events n es each.1)
 
 pub loaded_judged : (s : ScriptText) (d : Declared) (t : Target) (bytes : List ℕ) → IsScriptText s bytes → Agree s d t → IsJudged (loaded_of s d t)

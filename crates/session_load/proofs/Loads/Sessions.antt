@@ -16,7 +16,7 @@ use Rattle.session_model.specs.declared.session.Rule.TheVariants.{Add}
 use Rattle.script_text.specs.declared.script.ScriptText.{ScriptText as ScriptStruct}
 use Rattle.session_load.specs.Agreement.{Target, Agree, IsParameter, IsEventOf}
 use Rattle.session_load.specs.Loading.{two_way_call, events_from, index_of, loaded_of}
-use Rattle.script_text.specs.Reading.{int_of}
+use Rattle.script_text.specs.Reading.{int_of, bytes_meant}
 use Rattle.tars_model.specs.Ranges.{IsInt, is_int}
 use Rattle.tars_model.proofs.CallerLemmas.{int_test, int_passes}
 use Rattle.script_text.specs.Reading.{EventValue, event_of, event_meant, Reads}
@@ -70,18 +70,18 @@ module _ (own : List ℕ) (func : ℕ) where
   -- what the event of a line is, where the next call has a number
   abbrev first_event : ℕ → EventText → Event
   first_event n (call name a b) = Call (two_way_call func n (Num (number_of a) ∷ Num (number_of b) ∷ []))
-  first_event n serve = Serve NODE None
+  first_event n (serve bytes) = Serve NODE (bytes_meant bytes)
   first_event n work = Work NODE
-  first_event n deliver = Deliver NODE None
+  first_event n (deliver bytes) = Deliver NODE (bytes_meant bytes)
   first_event n close = Close
 
   event_in_complete : (n : ℕ) (t : EventText) → IsEventOf own t → event_in own func n (event_meant t) ≡ Some (first_event n t)
   unfolding event_in call_with
   event_in_complete n (call name a b) is =
       rw (int_of_complete a is.1, int_of_complete b is.2, (bytes_eq-Decides name own).1 is.0) refl
-  event_in_complete n serve is = refl
+  event_in_complete n (serve bytes) is = refl
   event_in_complete n work is = refl
-  event_in_complete n deliver is = refl
+  event_in_complete n (deliver bytes) is = refl
   event_in_complete n close is = refl
 
   call_in_sound : (n : ℕ) (name : List ℕ) (a b : Option ℤ) (e : Event) → event_in own func n (value.call name a b) ≡ Some e
@@ -100,9 +100,9 @@ module _ (own : List ℕ) (func : ℕ) where
       let left = int_of_sound a c.0 c.2 in
       let right = int_of_sound b c.1 c.3 in
       ((c.4, left.0, right.0), cc (c.5, left.1, right.1))
-  event_in_sound n serve e found = (tt, sym (some_is (Serve NODE None) e found))
+  event_in_sound n (serve bytes) e found = (tt, sym (some_is (Serve NODE (bytes_meant bytes)) e found))
   event_in_sound n work e found = (tt, sym (some_is (Work NODE) e found))
-  event_in_sound n deliver e found = (tt, sym (some_is (Deliver NODE None) e found))
+  event_in_sound n (deliver bytes) e found = (tt, sym (some_is (Deliver NODE (bytes_meant bytes)) e found))
   event_in_sound n close e found = (tt, sym (some_is Close e found))
 
   -- the number after the event of a line
@@ -112,16 +112,16 @@ module _ (own : List ℕ) (func : ℕ) where
 
   next_is : (n : ℕ) (t : EventText) → next_number n (event_meant t) ≡ next_of n t
   next_is n (call name a b) = refl
-  next_is n serve = refl
+  next_is n (serve bytes) = refl
   next_is n work = refl
-  next_is n deliver = refl
+  next_is n (deliver bytes) = refl
   next_is n close = refl
 
   from_first : (n : ℕ) (t : EventText) (ts : List EventText) → events_from func n (t ∷ ts) ≡ first_event n t ∷ events_from func (next_of n t) ts
   from_first n (call name a b) ts = refl
-  from_first n serve ts = refl
+  from_first n (serve bytes) ts = refl
   from_first n work ts = refl
-  from_first n deliver ts = refl
+  from_first n (deliver bytes) ts = refl
   from_first n close ts = refl
 
   cons_is : (n m : ℕ) (t : EventText) (ts : List EventText) (e : Event) (rest es : List Event) → e ∷ rest ≡ es → e ≡ first_event n t → rest ≡ events_from func m ts → m ≡ next_of n t → es ≡ events_from func n (t ∷ ts)

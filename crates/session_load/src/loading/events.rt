@@ -59,15 +59,9 @@ fn event_of(
             second: Some(second),
         } if name == own => Some(Event::Call(call_spec(alloc, func, number, first, second)?)),
         EventText::Call { .. } => None,
-        EventText::Serve => Some(Event::Serve {
-            node: NODE,
-            bytes: None,
-        }),
+        EventText::Serve { bytes } => Some(Event::Serve { node: NODE, bytes }),
         EventText::Work => Some(Event::Work { node: NODE }),
-        EventText::Deliver => Some(Event::Deliver {
-            node: NODE,
-            bytes: None,
-        }),
+        EventText::Deliver { bytes } => Some(Event::Deliver { node: NODE, bytes }),
         EventText::Close => Some(Event::Close),
     })
 }
