@@ -123,7 +123,7 @@ module _ (s : Session) (schema : IsSchema s.client) (judged : IsJudged s) where
   -- ---- what came for a call is the reply to it
 
   abbrev own_response : Noted → Life → Response
-  own_response call life = response_with (pos life.id) (by_rule s call.spec.func (rule_for s call.spec.func) call.spec.args)
+  own_response call life = response_with (pos life.id) (pos 0) (by_rule s call.spec.func (rule_for s call.spec.func) call.spec.args)
 
   record IsOwn (call : Noted) (life : Life) (response : Response) (bytes : List ℕ) : Type 0 where
     response_is : response ≡ own_response call life
@@ -133,7 +133,7 @@ module _ (s : Session) (schema : IsSchema s.client) (judged : IsJudged s) where
       → (came : CameFor s (ended s s.events) life.id node packet response) → IsOwn call life response came.bytes
   came_own k call life e is_opened_so node packet response came =
       record {
-        response_is = said ∙ ap (λ (n : Noted). own_response n reply.life) calls ∙ ap (λ i. response_with (pos i) (by_rule s call.spec.func (rule_for s call.spec.func) call.spec.args)) ids;
+        response_is = said ∙ ap (λ (n : Noted). own_response n reply.life) calls ∙ ap (λ i. response_with (pos i) (pos 0) (by_rule s call.spec.func (rule_for s call.spec.func) call.spec.args)) ids;
         bytes_are = reply.bytes_are ∙ ap (λ (n : Noted). reply_frame s n.spec reply.life.id) calls ∙ ap (λ i. reply_frame s call.spec i) ids;
       }
     where

@@ -28,7 +28,7 @@ use Rattle.session_model.specs.declared.session.Session.{Session}
 use Rattle.rpc_packet.specs.Bodies.{values_of}
 use Rattle.rpc_packet.specs.Packets.{request_frame, read_request, response_frame, read_response}
 use Rattle.rpc_packet.specs.declared.response.Response.{Response}
-use Rattle.rpc_packet.proofs.CallerLemmas.{response_length, request_packet, response_packet}
+use Rattle.rpc_packet.proofs.CallerLemmas.{no_texts, within_sendable, within_answerable, response_length, request_packet, response_packet}
 use Rattle.rpc_packet.proofs.ComesBack.{request_comes_back, response_comes_back}
 use Rattle.rpc_packet.proofs.FrameBytes.{response_bytes}
 use Rattle.plan_course.specs.Servants.{NO_SERVANT, TOO_LONG, Answer, no_values, rule_for, by_rule, replied, with_values, defaults, of_function, with_arguments, func_named, answer, response_with, within_limit, answer_frame}
@@ -85,7 +85,7 @@ ruled s func first second is (Some rule) args =
 -- ---- a response with such an answer
 
 abbrev response_of : Declared → ℕ → Reply → Response
-response_of d id reply = response_with (pos id) (answer_of d reply)
+response_of d id reply = response_with (pos id) (pos 0) (answer_of d reply)
 
 module _ (d : Declared) (schema : IsSchema d) (id : ℕ) (small : id < IDS) where
   body_short : (reply : Reply) → length (response_of d id reply).body ≤ 10
@@ -103,12 +103,15 @@ module _ (d : Declared) (schema : IsSchema d) (id : ℕ) (small : id < IDS) wher
   pub response_within : (reply : Reply) → length (response_frame (response_of d id reply)) ≤ LONGEST
   response_within reply =
       let short = body_short reply in
-      let long = response_length (response_of d id reply) in
+      let long = response_length (response_of d id reply) refl in
       omega (arith, short, long)
 
   pub response_back : (reply : Reply) → IsFit reply → read_response (response_frame (response_of d id reply)) ≡ Some (response_of d id reply)
   response_back reply fit =
-      response_comes_back (response_of d id reply) small (ret_small reply fit) (response_within reply) (response_bytes (response_of d id reply) (body_bytes reply))
+      response_comes_back (response_of d id reply)
+      (record { version = lit< tt; kind = lit< tt; id = small; message = lit< tt; ret = ret_small reply fit })
+      (within_answerable (response_of d id reply) no_texts (response_within reply))
+      (response_bytes (response_of d id reply) refl (body_bytes reply) (All-nil (λ byte. byte < 256)))
 
 -- what the end of such a response says
 replied_says : (s : Session) (schema : IsSchema s.client) (func : ℕ) (first second : List ℕ) → func_of s func ≡ func_of_two (func_of s func).name first second → (node packet id : ℕ) (reply : Reply) → IsFit reply
@@ -124,7 +127,9 @@ module _ (s : Session) (schema : IsSchema s.client) (judged : IsJudged s) (spec 
   pub request_back : read_request (request_frame (request_of s spec id)) ≡ Some (request_of s spec id)
   request_back =
       let frame = sent.call.frames id sent.small in
-      request_comes_back (request_of s spec id) (lit< tt) sent.small judged.timeout frame.within frame.bytes
+      request_comes_back (request_of s spec id)
+      (record { version = lit< tt; kind = lit< tt; message = lit< tt; id = sent.small; timeout = judged.timeout })
+      (within_sendable (request_of s spec id) no_texts no_texts frame.within) frame.bytes
 
   pub request_whole : IsPacket LONGEST (request_frame (request_of s spec id))
   request_whole = request_packet (request_of s spec id) (sent.call.frames id sent.small).within
@@ -147,27 +152,27 @@ module _ (s : Session) (schema : IsSchema s.client) (judged : IsJudged s) (spec 
   reply_fits : IsFit (reply_to s spec)
   reply_fits = given_fits (rule_for s spec.func) spec.args
 
-  pub reply_back : read_response (reply_frame s spec id) ≡ Some (response_with (pos id) call_answer)
+  pub reply_back : read_response (reply_frame s spec id) ≡ Some (response_with (pos id) (pos 0) call_answer)
   reply_back =
-      subst (λ (a : Answer). read_response (response_frame (response_with (pos id) a)) ≡ Some (response_with (pos id) a)) (sym ruled_answer)
+      subst (λ (a : Answer). read_response (response_frame (response_with (pos id) (pos 0) a)) ≡ Some (response_with (pos id) (pos 0) a)) (sym ruled_answer)
       (response_back s.client schema id sent.small (reply_to s spec) reply_fits)
 
   reply_within : length (reply_frame s spec id) ≤ LONGEST
   reply_within =
-      subst (λ (a : Answer). length (response_frame (response_with (pos id) a)) ≤ LONGEST) (sym ruled_answer)
+      subst (λ (a : Answer). length (response_frame (response_with (pos id) (pos 0) a)) ≤ LONGEST) (sym ruled_answer)
       (response_within s.client schema id sent.small (reply_to s spec))
 
   pub reply_whole : IsPacket LONGEST (reply_frame s spec id)
-  reply_whole = response_packet (response_with (pos id) call_answer) reply_within
+  reply_whole = response_packet (response_with (pos id) (pos 0) call_answer) reply_within
 
   -- what a node answers to the request
   pub answered : answer_frame s (request_of s spec id) ≡ reply_frame s spec id
   unfolding answer_frame
   answered =
-      ap (λ (a : Answer). response_frame (response_with (pos id) (within_limit (pos id) a))) answer_is
-      ∙ ap (λ b. response_frame (response_with (pos id) (cond b call_answer (no_values TOO_LONG)))) (le-leb (length (reply_frame s spec id)) LONGEST reply_within)
+      ap (λ (a : Answer). response_frame (response_with (pos id) (pos 0) (within_limit (pos id) (pos 0) a))) answer_is
+      ∙ ap (λ b. response_frame (response_with (pos id) (pos 0) (cond b call_answer (no_values TOO_LONG)))) (le-leb (length (reply_frame s spec id)) LONGEST reply_within)
 
-  pub end_says : (node packet : ℕ) → Says (reply_end s spec.func node packet (response_with (pos id) call_answer)) (reply_to s spec)
+  pub end_says : (node packet : ℕ) → Says (reply_end s spec.func node packet (response_with (pos id) (pos 0) call_answer)) (reply_to s spec)
   end_says node packet =
-      subst (λ (a : Answer). Says (reply_end s spec.func node packet (response_with (pos id) a)) (reply_to s spec)) (sym ruled_answer)
+      subst (λ (a : Answer). Says (reply_end s spec.func node packet (response_with (pos id) (pos 0) a)) (reply_to s spec)) (sym ruled_answer)
       (replied_says s schema spec.func sent.call.func.first sent.call.func.second sent.call.func.is node packet id (reply_to s spec) reply_fits)

@@ -10,6 +10,7 @@ use Rattle.tars_frames.specs.Streams.{first_length}
 use Rattle.tars_frames.specs.Cutting.{packets_of, has_packet, is_length}
 use Rattle.rpc_packet.specs.Packets.{read_response}
 use Rattle.session_model.specs.declared.session.Session.{Session}
+use Rattle.plan_course.specs.Servants.{response_with}
 use Rattle.plan_course.specs.Courses.{closed, Life, opened, Desk, unused, called, came, refused_call, after_all}
 
 -- two packets in a stream, and two bytes of a third
@@ -40,7 +41,7 @@ a_ninth s = refl
 abbrev a_desk : Session → Desk
 a_desk s = record { calls = record { spec = a_call 1; pick = live_node; stage = opened (a_life s) } ∷ []; link = unused }
 
-pub twice : (s : Session) (packet body : List ℕ) → read_response packet ≡ Some (record { id = pos 1; ret = pos 0; body = body })
+pub twice : (s : Session) (packet body : List ℕ) → read_response packet ≡ Some (response_with (pos 1) (pos 0) (record { ret = pos 0; body = body }))
     → (came s 1 (came s 1 (a_desk s) packet) packet).link.got
     ≡ record { packet = packet; fate = Used (record { 0 = 1 }) } ∷ record { packet = packet; fate = Late 0 } ∷ []
 unfolding came

@@ -35,9 +35,9 @@ Says (ValueEnd node packet values) (sum n) = values ≡ Num n ∷ []
 Says (Code node packet ret) (code n) = ret ≡ n
 Says _ _ = ⊥
 
--- the packet of that reply, under an id
+-- the packet of that reply, under an id; the message type of a scripted call is 0
 abbrev pub reply_frame : Session → CallSpec → ℕ → List ℕ
-reply_frame s spec id = response_frame (response_with (pos id) (by_rule s spec.func (rule_for s spec.func) spec.args))
+reply_frame s spec id = response_frame (response_with (pos id) (pos 0) (by_rule s spec.func (rule_for s spec.func) spec.args))
 
 pub record IsAnsweredByRule (s : Session) (r : Report) : Type 0 where
   -- each reply is what the rule gives for the arguments of its call

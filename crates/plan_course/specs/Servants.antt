@@ -86,14 +86,25 @@ answer s r =
     then (if bytes_eq r.servant s.object.id then of_function s r (func_named s r.func) else no_values NO_SERVANT)
     else no_values NOT_READ
 
--- an answer under an id
-abbrev pub response_with : ℤ → Answer → Response
-response_with id a = record { id = id; ret = a.ret; body = a.body }
+-- an answer under an id and a message type: version 1, packet type 0, neither status nor description
+abbrev pub response_with : ℤ → ℤ → Answer → Response
+response_with id message a =
+    record {
+      version = pos 1;
+      kind = pos 0;
+      id = id;
+      message = message;
+      ret = a.ret;
+      body = a.body;
+      status = [];
+      note = [];
+    }
 
 -- the code alone where the frame would be longer than a packet may be
-abbrev pub within_limit : ℤ → Answer → Answer
-within_limit id a = if nat_le (length (response_frame (response_with id a))) LONGEST then a else no_values TOO_LONG
+abbrev pub within_limit : ℤ → ℤ → Answer → Answer
+within_limit id message a =
+    if nat_le (length (response_frame (response_with id message a))) LONGEST then a else no_values TOO_LONG
 
--- under the id of the request
+-- under the id and the message type of the request
 unfoldable pub answer_frame : Session → Request → List ℕ
-answer_frame s r = response_frame (response_with r.id (within_limit r.id (answer s r)))
+answer_frame s r = response_frame (response_with r.id r.message (within_limit r.id r.message (answer s r)))

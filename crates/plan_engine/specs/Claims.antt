@@ -14,7 +14,7 @@ use Rattle.plan_engine.specs.declared.fate.Fate.TheVariants.{Replied, Closed}
 
 -- what is known of a response that was read of a packet
 pub record IsReply (r : Response) : Type 0 where
-  pub body : IsAnswerable r
+  pub fields : IsAnswerable r
   pub ret : IsInt r.ret
 
 abbrev pub FateFits : Fate → Type 0

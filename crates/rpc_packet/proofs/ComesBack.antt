@@ -1,8 +1,7 @@
 -- What was written reads back: requests, responses, and bodies of any members.
-use Rattle.std.proofs.Common.{◌≡◌, ◌∙◌, ◌<◌, ◌≤◌, ◌^◌, true, ℕ, ℤ, List, [], length, drop, Ok, Some, option_map, refl, ap, lit<, subst}
+use Rattle.std.proofs.Common.{◌≡◌, ◌∙◌, ◌<◌, true, ℕ, ℤ, List, [], map, drop, Result, Ok, Err, IfOk, Some, option_map, refl, sym, ap, lit<, subst}
 use Rattle.std.specs.List.{All}
 use Rattle.std.proofs.lemmas.List.Elements.{All-from_recursion, All-drop}
-use lib.Signed.{mag}
 use Rattle.wire_words.specs.Tree.{WireFields}
 use Rattle.tars_model.specs.Declarations.{Declared, nothing_declared}
 use Rattle.tars_model.specs.Members.{required}
@@ -15,7 +14,7 @@ use Rattle.tars_model.specs.declared.ty.Ty.{Ty, out-Ty, map-Ty, fold_out-Ty, Byt
 use Rattle.tars_model.specs.declared.ty.Ty.TheOpen as ty
 use Rattle.tars_model.specs.declared.ty.Ty.TheVariants.{outs-Byte, outs-Short, outs-Int, outs-Vector, outs-Text, outs-Map}
 use Rattle.tars_model.specs.declared.value.Value.{Value, Num}
-use Rattle.tars_model.specs.declared.value.Value.TheVariants.{outs-Num, outs-Text as outs-text, outs-Blob as outs-blob}
+use Rattle.tars_model.specs.declared.value.Value.TheVariants.{outs-Num, outs-Text as outs-text, outs-Blob as outs-blob, outs-Map as outs-map}
 use Rattle.tars_model.proofs.CallerLemmas.{int_passes}
 use Rattle.tars_model.proofs.ToldLaws.{told_fits_num}
 use Rattle.tars_wire.specs.Heads.{MAX_DEPTH}
@@ -25,15 +24,17 @@ use Rattle.tars_decode.specs.Decoding.{MembersFit}
 use Rattle.tars_decode.specs.Reads.{reads}
 use Rattle.tars_codec.specs.Written.{written, IsShallow, AreShallow}
 use Rattle.tars_codec.proofs.ReadBack.{written_reads}
-use Rattle.tars_frames.specs.Streams.{LENGTH_BYTES, LONGEST, framed}
+use Rattle.tars_frames.specs.Streams.{LENGTH_BYTES, framed}
 use Rattle.wire_reading.specs.Readings.{AreBytes, Reading, body, no_body}
 use Rattle.rpc_packet.specs.Bodies.{reading, unless_refused, values_in, values_of}
-use Rattle.rpc_packet.specs.Packets.{request_members, request_values, request_frame, request_in, read_request, response_members, response_values, response_frame, response_in, read_response}
+use Rattle.rpc_packet.specs.Outcomes.{IsSendable, IsAnswerable}
+use Rattle.rpc_packet.specs.Packets.{entry_of, request_members, request_values, request_frame, request_in, read_request, response_members, response_values, response_frame, response_in, read_response}
 use Rattle.rpc_packet.specs.declared.request.Request.{Request}
 use Rattle.rpc_packet.specs.declared.response.Response.{Response}
+use Rattle.rpc_packet.specs.declared.write_refusal.WriteRefusal.{WriteRefusal}
 use Rattle.rpc_packet.proofs.MemberLaws as members
-use Rattle.rpc_packet.proofs.ValuesFit.{request_fits, response_fits}
-use Rattle.rpc_packet.proofs.Within.{within_sendable, within_answerable}
+use Rattle.rpc_packet.proofs.ValuesFit.{HasRequestNumbers, HasResponseNumbers, request_fits, response_fits}
+use Rattle.rpc_packet.proofs.TextMaps.{texts_back}
 
 -- ---- bytes that spell fields are read as these
 
@@ -125,27 +126,64 @@ body_bytes : (bytes : List ℕ) → AreBytes (framed bytes) → AreBytes bytes
 body_bytes bytes all = subst AreBytes (body_after bytes) (All-drop (λ byte. byte < 256) LENGTH_BYTES (framed bytes) all)
 
 same_request : (r : Request) → request_in (request_values r) ≡ r
-same_request r = rw (outs-Num r.version, outs-Num r.id, outs-text r.servant, outs-text r.func, outs-blob r.body, outs-Num r.timeout) refl
+same_request r =
+    rw (
+      outs-Num r.version,
+      outs-Num r.kind,
+      outs-Num r.message,
+      outs-Num r.id,
+      outs-text r.servant,
+      outs-text r.func,
+      outs-blob r.body,
+      outs-Num r.timeout,
+      outs-map (map entry_of r.context),
+      outs-map (map entry_of r.status),
+      texts_back r.context,
+      texts_back r.status,
+    ) refl
 
-pub request_comes_back : (r : Request) → mag r.version < 2 ^ 15 → mag r.id < 2 ^ 31 → mag r.timeout < 2 ^ 31 → length (request_frame r) ≤ LONGEST → AreBytes (request_frame r)
-    → read_request (request_frame r) ≡ Some r
+pub request_comes_back : (r : Request) → HasRequestNumbers r → IsSendable r → AreBytes (request_frame r) → read_request (request_frame r) ≡ Some r
 unfolding read_request request_frame
-request_comes_back r version id timeout within small =
+request_comes_back r numbers sendable small =
     ap (λ bytes. option_map request_in (values_of nothing_declared request_members bytes)) (body_after (written nothing_declared request_members (request_values r)))
     ∙ (ap (λ o. option_map request_in o)
-    (written_comes_back nothing_declared request_members (request_values r) request_readable (request_fits r version id timeout (within_sendable r within))
+    (written_comes_back nothing_declared request_members (request_values r) request_readable (request_fits r numbers sendable)
     (body_bytes (written nothing_declared request_members (request_values r)) small))
     ∙ ap (λ q. Some q) (same_request r))
 
 same_response : (r : Response) → response_in (response_values r) ≡ r
-same_response r = rw (outs-Num r.id, outs-Num r.ret, outs-blob r.body) refl
+same_response r =
+    rw (
+      outs-Num r.version,
+      outs-Num r.kind,
+      outs-Num r.id,
+      outs-Num r.message,
+      outs-Num r.ret,
+      outs-blob r.body,
+      outs-map (map entry_of r.status),
+      texts_back r.status,
+      outs-text r.note,
+    ) refl
 
-pub response_comes_back : (r : Response) → mag r.id < 2 ^ 31 → mag r.ret < 2 ^ 31 → length (response_frame r) ≤ LONGEST → AreBytes (response_frame r)
-    → read_response (response_frame r) ≡ Some r
+pub response_comes_back : (r : Response) → HasResponseNumbers r → IsAnswerable r → AreBytes (response_frame r) → read_response (response_frame r) ≡ Some r
 unfolding read_response response_frame
-response_comes_back r id ret within small =
+response_comes_back r numbers answerable small =
     ap (λ bytes. option_map response_in (values_of nothing_declared response_members bytes)) (body_after (written nothing_declared response_members (response_values r)))
     ∙ (ap (λ o. option_map response_in o)
-    (written_comes_back nothing_declared response_members (response_values r) response_readable (response_fits r id ret (within_answerable r within))
+    (written_comes_back nothing_declared response_members (response_values r) response_readable (response_fits r numbers answerable)
     (body_bytes (written nothing_declared response_members (response_values r)) small))
     ∙ ap (λ q. Some q) (same_response r))
+
+-- ---- frames as they are written
+
+pub request_back : (r : Request) (result : Result (List ℕ) WriteRefusal) → HasRequestNumbers r → IsSendable r → IfOk result (λ frame. frame ≡ request_frame r) → IfOk result (λ frame. AreBytes frame)
+    → IfOk result (λ frame. read_request frame ≡ Some r)
+request_back r (Ok frame) numbers sendable is small =
+    subst (λ bytes. read_request bytes ≡ Some r) (sym is) (request_comes_back r numbers sendable (subst (λ bytes. AreBytes bytes) is small))
+request_back r (Err why) numbers sendable is small = tt
+
+pub response_back : (r : Response) (result : Result (List ℕ) WriteRefusal) → HasResponseNumbers r → IsAnswerable r → IfOk result (λ frame. frame ≡ response_frame r) → IfOk result (λ frame. AreBytes frame)
+    → IfOk result (λ frame. read_response frame ≡ Some r)
+response_back r (Ok frame) numbers answerable is small =
+    subst (λ bytes. read_response bytes ≡ Some r) (sym is) (response_comes_back r numbers answerable (subst (λ bytes. AreBytes bytes) is small))
+response_back r (Err why) numbers answerable is small = tt

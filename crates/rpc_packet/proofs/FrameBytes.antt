@@ -16,9 +16,10 @@ use Rattle.tars_codec.specs.Written.{wire_value, fields_of, written}
 use Rattle.tars_codec.proofs.CallerLemmas.{wire_value_at, num_wire, text_wire, blob_wire}
 use Rattle.tars_frames.specs.Streams.{LENGTH_BYTES, framed}
 use Rattle.wire_reading.specs.Readings.{AreBytes}
-use Rattle.rpc_packet.specs.Packets.{request_members, response_members, request_values, response_values, request_frame, response_frame}
+use Rattle.rpc_packet.specs.Packets.{texts_value, request_members, response_members, request_values, response_values, request_frame, response_frame}
 use Rattle.rpc_packet.specs.declared.request.Request.{Request}
 use Rattle.rpc_packet.specs.declared.response.Response.{Response}
+use Rattle.rpc_packet.specs.declared.text_pair.TextPair.{TextPair}
 
 abbrev IsByte : ℕ → Type 0
 IsByte byte = byte < 256
@@ -126,9 +127,9 @@ module _ (tag : ℕ) (small : tag < 256) where
       (both_bytes (head tag 8) (spelled_size 0) (head_bytes tag 8 small (lit< tt)) (size_bytes 0)) no_bytes
 
   -- no entries of texts
-  empty_bytes : SpellsBytes tag (wire_value (Map []) nothing_declared (MapTy TextTy TextTy))
-  empty_bytes =
-      rw (wire_value_at (Map []) (layer.Map []) (outs-Map []), outs-MapTy TextTy TextTy) no_entries_bytes
+  empty_bytes : (texts : List TextPair) → texts ≡ [] → SpellsBytes tag (wire_value (texts_value texts) nothing_declared (MapTy TextTy TextTy))
+  empty_bytes texts none =
+      rw (none, wire_value_at (Map []) (layer.Map []) (outs-Map []), outs-MapTy TextTy TextTy) no_entries_bytes
 
 -- ---- fields
 
@@ -154,16 +155,17 @@ framed_bytes body all =
 number_at : (tag : ℕ) (t : Ty) (n : ℤ) → tag < 256 → SpellsBytes tag (wire_value (Num n) nothing_declared t)
 number_at tag t n small = num_bytes tag small nothing_declared t n
 
-pub request_bytes : (r : Request) → AreBytes r.servant → AreBytes r.func → AreBytes r.body → AreBytes (request_frame r)
+-- a request with neither context nor status
+pub request_bytes : (r : Request) → r.context ≡ [] → r.status ≡ [] → AreBytes r.servant → AreBytes r.func → AreBytes r.body → AreBytes (request_frame r)
 unfolding request_members request_frame
-request_bytes r servant func body =
+request_bytes r context status servant func body =
     framed_bytes (written nothing_declared request_members (request_values r)) (
     written_bytes nothing_declared request_members (request_values r) (
       number_at 1 Short r.version (lit< tt),
       (
-        number_at 2 Byte (pos 0) (lit< tt),
+        number_at 2 Byte r.kind (lit< tt),
         (
-          number_at 3 Int (pos 0) (lit< tt),
+          number_at 3 Int r.message (lit< tt),
           (
             number_at 4 Int r.id (lit< tt),
             (
@@ -175,9 +177,9 @@ request_bytes r servant func body =
                   (
                     number_at 8 Int r.timeout (lit< tt),
                     (
-                      empty_bytes 9 (lit< tt),
+                      empty_bytes 9 (lit< tt) r.context context,
                       (
-                        empty_bytes 10 (lit< tt),
+                        empty_bytes 10 (lit< tt) r.status status,
                         tt,
                       ),
                     ),
@@ -190,26 +192,27 @@ request_bytes r servant func body =
       ),
     ))
 
-pub response_bytes : (r : Response) → AreBytes r.body → AreBytes (response_frame r)
+-- a response without a status
+pub response_bytes : (r : Response) → r.status ≡ [] → AreBytes r.body → AreBytes r.note → AreBytes (response_frame r)
 unfolding response_members response_frame
-response_bytes r body =
+response_bytes r status body note =
     framed_bytes (written nothing_declared response_members (response_values r)) (
     written_bytes nothing_declared response_members (response_values r) (
-      number_at 1 Short (pos 1) (lit< tt),
+      number_at 1 Short r.version (lit< tt),
       (
-        number_at 2 Byte (pos 0) (lit< tt),
+        number_at 2 Byte r.kind (lit< tt),
         (
           number_at 3 Int r.id (lit< tt),
           (
-            number_at 4 Int (pos 0) (lit< tt),
+            number_at 4 Int r.message (lit< tt),
             (
               number_at 5 Int r.ret (lit< tt),
               (
                 blob_bytes 6 (lit< tt) nothing_declared (Vector Byte) r.body body,
                 (
-                  empty_bytes 7 (lit< tt),
+                  empty_bytes 7 (lit< tt) r.status status,
                   (
-                    text_bytes 8 (lit< tt) nothing_declared TextTy [] no_bytes,
+                    text_bytes 8 (lit< tt) nothing_declared TextTy r.note note,
                     tt,
                   ),
                 ),

@@ -6,5 +6,7 @@ pub mod CallerLemmas
 pub mod BodyReads
 pub mod MemberLaws
 pub mod MemberValues
+pub mod PacketValues
+pub mod TextMaps
 pub mod Taken
 pub mod ValuesFit

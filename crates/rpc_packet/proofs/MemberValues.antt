@@ -7,12 +7,12 @@ use Rattle.tars_model.specs.Values.{Told, told, told_entry, told_layer, is_numbe
 use Rattle.tars_model.specs.declared.member.Member.{Member}
 use Rattle.tars_model.specs.declared.ty.Ty.{Ty, out-Ty, Byte, Short, Int, Text as TextTy, Vector}
 use Rattle.tars_model.specs.declared.ty.Ty.TheOpen as ty
-use Rattle.tars_model.specs.declared.ty.Ty.TheVariants.{outs-Short, outs-Int, outs-Vector, outs-Text}
+use Rattle.tars_model.specs.declared.ty.Ty.TheVariants.{outs-Byte, outs-Short, outs-Int, outs-Vector, outs-Text}
 use Rattle.tars_model.specs.declared.value.Pair.{Pair}
-use Rattle.tars_model.specs.declared.value.Value.{Value, Num, out-Value, map-Value}
+use Rattle.tars_model.specs.declared.value.Value.{Value, out-Value, map-Value}
 use Rattle.tars_model.specs.declared.value.Value.TheOpen as value
 use Rattle.tars_model.proofs.CallerLemmas.{told_out}
-use Rattle.rpc_packet.specs.Packets.{number_of_layer, number_at, bytes_of_layer, bytes_at, request_members, response_members}
+use Rattle.rpc_packet.specs.Packets.{number_of_layer, bytes_of_layer}
 
 -- ---- as many values as members, each of its member's type
 
@@ -22,7 +22,7 @@ as_many [] (v ∷ vs) e = absurd cc
 as_many (m ∷ ms) [] e = absurd cc
 as_many (m ∷ ms) (v ∷ vs) e = ap suc (as_many ms vs (and_parts _ _ e).1)
 
-fits_at : (members : List Member) (values : List Value) (k : ℕ) (m : Member) (v : Value) → fit_members nothing_declared members values ≡ true → k < length members → fits nothing_declared (get_or members k m).ty (get_or values k v) ≡ true
+pub fits_at : (members : List Member) (values : List Value) (k : ℕ) (m : Member) (v : Value) → fit_members nothing_declared members values ≡ true → k < length members → fits nothing_declared (get_or members k m).ty (get_or values k v) ≡ true
 fits_at [] values k m v e within = absurd (omega arith)
 fits_at (n ∷ ms) [] k m v e within = absurd cc
 fits_at (n ∷ ms) (w ∷ vs) zero m v e within = (and_parts _ _ e).0
@@ -30,11 +30,11 @@ fits_at (n ∷ ms) (w ∷ vs) (suc k) m v e within = fits_at ms vs k m v (and_pa
 
 -- ---- one value
 
-abbrev told_of : value.Value-F Value Pair → Told
+abbrev pub told_of : value.Value-F Value Pair → Told
 told_of l = told_layer (map-Value Value Pair Told (Told × Told) told told_entry l)
 
 module _ (t : Ty) (layer : TyLayer) (is : out-Ty t ≡ layer) (v : Value) (fit : fits nothing_declared t v ≡ true) where
-  fits_out : (told_of (out-Value v)).fits nothing_declared t ≡ true
+  pub fits_out : (told_of (out-Value v)).fits nothing_declared t ≡ true
   fits_out = sym (ap (λ (w : Told). w.fits nothing_declared t) (told_out v)) ∙ fit
 
   number_within : is_number_of layer (pos 0) ≡ true → is_number_of layer (number_of_layer (out-Value v)) ≡ true
@@ -61,61 +61,19 @@ module _ (t : Ty) (layer : TyLayer) (is : out-Ty t ≡ layer) (v : Value) (fit :
       by_layer (value.Map ps) e = some
       by_layer (value.Struct vs) e = some
 
-short_within : (v : Value) → fits nothing_declared Short v ≡ true → is_signed 15 (number_of_layer (out-Value v)) ≡ true
+pub byte_within : (v : Value) → fits nothing_declared Byte v ≡ true → is_signed 7 (number_of_layer (out-Value v)) ≡ true
+byte_within v fit = number_within Byte ty.Byte outs-Byte v fit refl
+
+pub short_within : (v : Value) → fits nothing_declared Short v ≡ true → is_signed 15 (number_of_layer (out-Value v)) ≡ true
 short_within v fit = number_within Short ty.Short outs-Short v fit refl
 
-int_within : (v : Value) → fits nothing_declared Int v ≡ true → is_signed 31 (number_of_layer (out-Value v)) ≡ true
+pub int_within : (v : Value) → fits nothing_declared Int v ≡ true → is_signed 31 (number_of_layer (out-Value v)) ≡ true
 int_within v fit = number_within Int ty.Int outs-Int v fit refl
 
-text_within : (v : Value) → fits nothing_declared TextTy v ≡ true → length (bytes_of_layer (out-Value v)) < 2 ^ 32
+pub text_within : (v : Value) → fits nothing_declared TextTy v ≡ true → length (bytes_of_layer (out-Value v)) < 2 ^ 32
 text_within v fit = bytes_within TextTy ty.Text outs-Text v fit (2 ^ 32) (lit< tt) (λ size e. ltb-true size (2 ^ 32) e) (λ size e. absurd cc)
 
-blob_within : (v : Value) → fits nothing_declared (Vector Byte) v ≡ true → length (bytes_of_layer (out-Value v)) < 2 ^ 31
+pub blob_within : (v : Value) → fits nothing_declared (Vector Byte) v ≡ true → length (bytes_of_layer (out-Value v)) < 2 ^ 31
 blob_within v fit =
     bytes_within (Vector Byte) (ty.Vector Byte) (outs-Vector Byte) v fit (2 ^ 31) (lit< tt) (λ size e. absurd cc)
     (λ size e. ltb-true size (2 ^ 31) (and_parts _ _ e).1)
-
--- ---- packets
-
-abbrev none : Value
-none = Num (pos 0)
-
-pub record RequestFits (values : List Value) : Type 0 where
-  pub count : length values ≡ 10
-  pub version : is_signed 15 (number_at values 0) ≡ true
-  pub id : is_signed 31 (number_at values 3) ≡ true
-  pub servant : length (bytes_at values 4) < 2 ^ 32
-  pub func : length (bytes_at values 5) < 2 ^ 32
-  pub body : length (bytes_at values 6) < 2 ^ 31
-  pub timeout : is_signed 31 (number_at values 7) ≡ true
-
-pub request_values_fit : (values : List Value) → fit_members nothing_declared request_members values ≡ true → RequestFits values
-unfolding request_members
-request_values_fit values fit =
-    let at : Member = record { tag = 0; require = true; ty = Int; name = []; default = none } in
-    record {
-      count = as_many request_members values fit;
-      version = short_within (get_or values 0 none) (fits_at request_members values 0 at none fit (lit< tt));
-      id = int_within (get_or values 3 none) (fits_at request_members values 3 at none fit (lit< tt));
-      servant = text_within (get_or values 4 none) (fits_at request_members values 4 at none fit (lit< tt));
-      func = text_within (get_or values 5 none) (fits_at request_members values 5 at none fit (lit< tt));
-      body = blob_within (get_or values 6 none) (fits_at request_members values 6 at none fit (lit< tt));
-      timeout = int_within (get_or values 7 none) (fits_at request_members values 7 at none fit (lit< tt));
-    }
-
-pub record ResponseFits (values : List Value) : Type 0 where
-  pub count : length values ≡ 8
-  pub id : is_signed 31 (number_at values 2) ≡ true
-  pub ret : is_signed 31 (number_at values 4) ≡ true
-  pub body : length (bytes_at values 5) < 2 ^ 31
-
-pub response_values_fit : (values : List Value) → fit_members nothing_declared response_members values ≡ true → ResponseFits values
-unfolding response_members
-response_values_fit values fit =
-    let at : Member = record { tag = 0; require = true; ty = Int; name = []; default = none } in
-    record {
-      count = as_many response_members values fit;
-      id = int_within (get_or values 2 none) (fits_at response_members values 2 at none fit (lit< tt));
-      ret = int_within (get_or values 4 none) (fits_at response_members values 4 at none fit (lit< tt));
-      body = blob_within (get_or values 5 none) (fits_at response_members values 5 at none fit (lit< tt));
-    }

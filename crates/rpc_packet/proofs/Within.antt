@@ -1,5 +1,5 @@
 -- Frames that are no longer than a packet may be are packets, and what stands in them fits its type.
-use Rattle.std.proofs.Common.{◌≡◌, ◌≤◌, ◌+◌, ◌*◌, ℕ, ℤ, pos, Bool, true, false, cond, nat_lt, nat_le, List, [], ◌∷◌, length, refl, sym, subst, arith, lit≤, length-append}
+use Rattle.std.proofs.Common.{◌≡◌, ◌≤◌, ◌+◌, ◌*◌, ℕ, ℤ, Bool, true, false, cond, nat_lt, nat_le, List, [], ◌∷◌, length, refl, sym, subst, arith, lit≤, length-append}
 use Rattle.wire_words.specs.Spelling.{head, spelled_number, spelled, shortest}
 use Rattle.wire_words.specs.Tree.{WireValue, WireNumber, zero_tag, int1, int2, int4, int8, string1, string4}
 use Rattle.tars_model.specs.Declarations.{nothing_declared}
@@ -10,7 +10,7 @@ use Rattle.tars_codec.proofs.CallerLemmas.{num_wire, text_wire, blob_wire}
 use Rattle.tars_frames.specs.Streams.{LENGTH_BYTES, LONGEST, IsPacket, framed}
 use Rattle.tars_frames.proofs.Readings.{framed_is_packet}
 use Rattle.rpc_packet.specs.Packets.{request_members, request_values, request_frame, response_members, response_values, response_frame}
-use Rattle.rpc_packet.specs.Outcomes.{IsSendable, IsAnswerable}
+use Rattle.rpc_packet.specs.Outcomes.{AreTexts, IsSendable, IsAnswerable}
 use Rattle.rpc_packet.specs.declared.request.Request.{Request}
 use Rattle.rpc_packet.specs.declared.response.Response.{Response}
 
@@ -71,26 +71,33 @@ request_whole r =
       blob_whole 7 (Vector Byte) r.body,
     ))
 
-response_whole : (r : Response) → 1 + length r.body ≤ length (written nothing_declared response_members (response_values r))
+response_whole : (r : Response) → 1 + length r.body + length r.note ≤ length (written nothing_declared response_members (response_values r))
 unfolding written response_members
-response_whole r = simp length-append (omega (arith, num_some 1 Short (pos 1), blob_whole 6 (Vector Byte) r.body))
+response_whole r = simp length-append (omega (arith, num_some 1 Short r.version, blob_whole 6 (Vector Byte) r.body, text_whole 8 TextTy r.note))
 
 -- ---- requests and responses
 
-pub within_sendable : (r : Request) → length (request_frame r) ≤ LONGEST → IsSendable r
+pub within_sendable : (r : Request) → AreTexts r.context → AreTexts r.status → length (request_frame r) ≤ LONGEST → IsSendable r
 unfolding request_frame
-within_sendable r within =
+within_sendable r context status within =
     let longer = framed_length (written nothing_declared request_members (request_values r)) in
     record {
       servant = omega (arith, request_whole r, longer, within);
       func = omega (arith, request_whole r, longer, within);
       body = omega (arith, request_whole r, longer, within);
+      context = context;
+      status = status;
     }
 
-pub within_answerable : (r : Response) → length (response_frame r) ≤ LONGEST → IsAnswerable r
+pub within_answerable : (r : Response) → AreTexts r.status → length (response_frame r) ≤ LONGEST → IsAnswerable r
 unfolding response_frame
-within_answerable r within =
-    omega (arith, response_whole r, framed_length (written nothing_declared response_members (response_values r)), within)
+within_answerable r status within =
+    let longer = framed_length (written nothing_declared response_members (response_values r)) in
+    record {
+      body = omega (arith, response_whole r, longer, within);
+      status = status;
+      note = omega (arith, response_whole r, longer, within);
+    }
 
 pub response_body_within : (r : Response) → length r.body ≤ length (response_frame r)
 unfolding response_frame

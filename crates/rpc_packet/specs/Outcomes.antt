@@ -1,7 +1,9 @@
 -- How reading and writing of packets come out.
-use Rattle.std.specs.Prelude.{◌≡◌, ◌<◌, ◌≤◌, ◌^◌, ◌-◌, ℕ, min, Option, Some, None, Result, Ok, Err, List, length}
+use Rattle.std.specs.Prelude.{◌≡◌, ◌<◌, ◌≤◌, ◌^◌, ◌-◌, ℕ, min, true, map, Option, Some, None, Result, Ok, Err, List, length}
+use Rattle.std.specs.List.{AllByRecursion}
 use Rattle.wire_words.specs.Tree.{WireFields}
 use Rattle.tars_model.specs.Declarations.{nothing_declared}
+use Rattle.tars_model.specs.Values.{a_text, keys_rise}
 use Rattle.tars_model.specs.declared.member.Member.{Member}
 use Rattle.tars_frames.specs.Streams.{LONGEST}
 use Rattle.tars_wire.specs.Faults.{IsFault}
@@ -14,6 +16,7 @@ use Rattle.tars_decode.specs.declared.refuse.Refuse.{Refuse}
 use Rattle.tars_decode.specs.declared.refuse.Refuse.TheVariants as refuse
 use Rattle.rpc_packet.specs.declared.request.Request.{Request}
 use Rattle.rpc_packet.specs.declared.response.Response.{Response}
+use Rattle.rpc_packet.specs.declared.text_pair.TextPair.{TextPair}
 use Rattle.rpc_packet.specs.declared.write_refusal.WriteRefusal.{WriteRefusal}
 use Rattle.rpc_packet.specs.declared.write_refusal.WriteRefusal.TheVariants.{TooLong, Memory}
 
@@ -36,14 +39,28 @@ Refuses members bytes (refuse.Missing path) = EndsIn members bytes (refusal.Miss
 Refuses members bytes (refuse.Mismatch path why) = EndsIn members bytes (refusal.Mismatch path why)
 Refuses members bytes refuse.Memory = Unit {0}
 
--- texts and bodies fit their types
+-- a key and a value are as long as texts may be
+abbrev pub IsShort : TextPair → Type 0
+IsShort p = (length p.key < 2 ^ 32) × (length p.value < 2 ^ 32)
+
+-- the entries of a map of texts: fewer than 2^31, and their keys rise, byte by byte
+pub record AreTexts (texts : List TextPair) : Type 0 where
+  pub few : length texts < 2 ^ 31
+  pub rise : keys_rise (map (λ (p : TextPair). a_text p.key) texts) ≡ true
+  pub short : AllByRecursion IsShort texts
+
+-- texts, the body and maps fit their types
 pub record IsSendable (r : Request) : Type 0 where
   pub servant : length r.servant < 2 ^ 32
   pub func : length r.func < 2 ^ 32
   pub body : length r.body < 2 ^ 31
+  pub context : AreTexts r.context
+  pub status : AreTexts r.status
 
-abbrev pub IsAnswerable : Response → Type 0
-IsAnswerable r = length r.body < 2 ^ 31
+pub record IsAnswerable (r : Response) : Type 0 where
+  pub body : length r.body < 2 ^ 31
+  pub status : AreTexts r.status
+  pub note : length r.note < 2 ^ 32
 
 -- a frame is written where it is no longer than a packet may be, and else its length is told
 abbrev pub IsWithin : {A : Type 0} → List ℕ → Result A WriteRefusal → Type 0

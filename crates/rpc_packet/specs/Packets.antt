@@ -1,16 +1,17 @@
 -- Requests and responses, as they are written and read (docs/PROTOCOL.md, "Packets"; RequestF.tars of TarsCpp).
-use Rattle.std.specs.Prelude.{ℕ, ℤ, pos, Bool, true, false, Option, option_map, List, [], ◌∷◌, drop, slice_index_or, codes}
+use Rattle.std.specs.Prelude.{ℕ, ℤ, pos, Bool, true, false, Option, option_map, List, [], ◌∷◌, drop, map, slice_index_or, codes}
 use Rattle.tars_model.specs.Declarations.{nothing_declared}
 use Rattle.tars_model.specs.declared.member.Member.{Member}
 use Rattle.tars_model.specs.declared.ty.Ty.{Ty, Byte, Short, Int, Text as TextTy, Vector, Map as MapTy}
 use Rattle.tars_model.specs.declared.value.Value.{Value, Num, Text, Blob, Map, out-Value}
 use Rattle.tars_model.specs.declared.value.Value.TheOpen as layer
-use Rattle.tars_model.specs.declared.value.Pair.{Pair}
+use Rattle.tars_model.specs.declared.value.Pair.{Pair, out-Pair, roll-Pair}
 use Rattle.tars_codec.specs.Written.{written}
 use Rattle.tars_frames.specs.Streams.{LENGTH_BYTES, framed}
 use Rattle.rpc_packet.specs.Bodies.{values_of}
 use Rattle.rpc_packet.specs.declared.request.Request.{Request}
 use Rattle.rpc_packet.specs.declared.response.Response.{Response}
+use Rattle.rpc_packet.specs.declared.text_pair.TextPair.{TextPair}
 
 -- a member of a packet, whose default is the absent one
 abbrev pub packet_member : ℕ → Bool → Ty → List ℕ → Value → Member
@@ -54,15 +55,22 @@ response_members =
     ∷ text_member 8 false (codes "sResultDesc")
     ∷ []
 
--- Written: a normal call, message type 0, no context, no status and no description.
+-- Written: every member, in the order of the tags, and a map as its entries.
+abbrev pub entry_of : TextPair → Pair
+entry_of p = roll-Pair (record { key = Text p.key; value = Text p.value })
+
+abbrev pub texts_value : List TextPair → Value
+texts_value texts = Map (map entry_of texts)
+
 abbrev pub request_values : Request → List Value
 request_values r =
-    Num r.version ∷ Num (pos 0) ∷ Num (pos 0) ∷ Num r.id ∷ Text r.servant ∷ Text r.func ∷ Blob r.body
-    ∷ Num r.timeout ∷ Map [] ∷ Map [] ∷ []
+    Num r.version ∷ Num r.kind ∷ Num r.message ∷ Num r.id ∷ Text r.servant ∷ Text r.func ∷ Blob r.body
+    ∷ Num r.timeout ∷ texts_value r.context ∷ texts_value r.status ∷ []
 
 abbrev pub response_values : Response → List Value
 response_values r =
-    Num (pos 1) ∷ Num (pos 0) ∷ Num r.id ∷ Num (pos 0) ∷ Num r.ret ∷ Blob r.body ∷ Map [] ∷ Text [] ∷ []
+    Num r.version ∷ Num r.kind ∷ Num r.id ∷ Num r.message ∷ Num r.ret ∷ Blob r.body
+    ∷ texts_value r.status ∷ Text r.note ∷ []
 
 unfoldable pub request_frame : Request → List ℕ
 request_frame r = framed (written nothing_declared request_members (request_values r))
@@ -86,19 +94,44 @@ bytes_of_layer _ = []
 abbrev pub bytes_at : List Value → ℕ → List ℕ
 bytes_at values k = bytes_of_layer (out-Value (slice_index_or values k (Num (pos 0))))
 
+abbrev pub text_pair : Pair → TextPair
+text_pair p =
+    record { key = bytes_of_layer (out-Value (out-Pair p).key); value = bytes_of_layer (out-Value (out-Pair p).value) }
+
+abbrev pub texts_of_layer : layer.Value-F Value Pair → List TextPair
+texts_of_layer (layer.Map entries) = map text_pair entries
+texts_of_layer _ = []
+
+abbrev pub texts_at : List Value → ℕ → List TextPair
+texts_at values k = texts_of_layer (out-Value (slice_index_or values k (Num (pos 0))))
+
 abbrev pub request_in : List Value → Request
 request_in values =
     record {
       version = number_at values 0;
+      kind = number_at values 1;
+      message = number_at values 2;
       id = number_at values 3;
       servant = bytes_at values 4;
       func = bytes_at values 5;
       body = bytes_at values 6;
       timeout = number_at values 7;
+      context = texts_at values 8;
+      status = texts_at values 9;
     }
 
 abbrev pub response_in : List Value → Response
-response_in values = record { id = number_at values 2; ret = number_at values 4; body = bytes_at values 5 }
+response_in values =
+    record {
+      version = number_at values 0;
+      kind = number_at values 1;
+      id = number_at values 2;
+      message = number_at values 3;
+      ret = number_at values 4;
+      body = bytes_at values 5;
+      status = texts_at values 6;
+      note = bytes_at values 7;
+    }
 
 unfoldable pub read_request : List ℕ → Option Request
 read_request packet = option_map request_in (values_of nothing_declared request_members (drop LENGTH_BYTES packet))

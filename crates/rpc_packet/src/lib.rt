@@ -9,10 +9,13 @@ mod packets;
 mod reading;
 mod request;
 mod response;
+mod text_pair;
+mod texts;
 mod write_refusal;
 mod writing;
 
 pub use packets::Packets;
 pub use request::Request;
 pub use response::Response;
+pub use text_pair::TextPair;
 pub use write_refusal::WriteRefusal;

@@ -1,4 +1,4 @@
-ghost use Rattle.std.specs.Prelude.{◌≡◌, drop, IfOk, IfErr};
+ghost use Rattle.std.specs.Prelude.{◌≡◌, Some, drop, IfOk, IfErr};
 ghost use Rattle.tars_frames.specs.Streams.{IsPacket, LENGTH_BYTES, LONGEST};
 ghost use Rattle.rpc_packet.specs.Packets.{request_members as members_of_request, response_members as members_of_response, request_frame as frame_of_request, response_frame as frame_of_response, read_request as request_read, read_response as response_read};
 ghost use Rattle.tars_model.specs.Ranges.{IsInt};
@@ -47,7 +47,10 @@ impl Packets {
         ensures fits { IfOk result (λ request. IsSendable request) }
     {
         let values = read_values(alloc, self.request.as_slice(), packet)?;
-        Ok(request_of(alloc, values))
+        match request_of(alloc, values) {
+            Ok(request) => Ok(request),
+            Err(AllocError) => Err(Refuse::Memory),
+        }
     }
 
     /// The response in a packet.
@@ -60,28 +63,35 @@ impl Packets {
         ensures ret { IfOk result (λ response. IsInt response.ret) }
     {
         let values = read_values(alloc, self.response.as_slice(), packet)?;
-        Ok(response_of(alloc, values))
+        match response_of(alloc, values) {
+            Ok(response) => Ok(response),
+            Err(AllocError) => Err(Refuse::Memory),
+        }
     }
 
-    /// The frame of a request: a normal call, message type 0, no context and no status.
+    /// The frame of a request, with all its members.
     pub fn write_request(&self, alloc: Global, request: Request) -> Result<Bytes8, WriteRefusal>
         requires sendable { IsSendable request }
         ensures written { IfOk result (λ frame. frame ≡ frame_of_request request) }
         // It is too long exactly where it is longer than a packet may be.
         ensures limit { IsWithin (frame_of_request request) result }
+        // It reads back.
+        ensures back { IfOk result (λ frame. request_read frame ≡ Some request) }
     {
-        let values = request_values(alloc, request);
+        let values = request_values(alloc, request)?;
         frame(alloc, self.request.as_slice(), &values)
     }
 
-    /// The frame of a response: version 1, message type 0, no status and no description.
+    /// The frame of a response, with all its members.
     pub fn write_response(&self, alloc: Global, response: Response) -> Result<Bytes8, WriteRefusal>
         requires answerable { IsAnswerable response }
         ensures written { IfOk result (λ frame. frame ≡ frame_of_response response) }
         // It is too long exactly where it is longer than a packet may be.
         ensures limit { IsWithin (frame_of_response response) result }
+        // It reads back.
+        ensures back { IfOk result (λ frame. response_read frame ≡ Some response) }
     {
-        let values = response_values(alloc, response);
+        let values = response_values(alloc, response)?;
         frame(alloc, self.response.as_slice(), &values)
     }
 }

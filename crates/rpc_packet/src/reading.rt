@@ -1,17 +1,17 @@
 //! What a packet says, from the values of its members.
 
-ghost use Rattle.std.specs.Prelude.{◌≡◌, true, drop, IfOk, IfErr};
+ghost use Rattle.std.specs.Prelude.{◌≡◌, ◌<◌, true, length, drop, remove, IfOk, IfErr};
 ghost use Rattle.tars_model.specs.Declarations.{nothing_declared};
 ghost use Rattle.tars_model.specs.Values.{is_signed, fit_members};
-ghost use Rattle.tars_model.specs.declared.value.Value.{out-Value};
 ghost use Rattle.tars_decode.specs.Decoding.{MembersFit};
 ghost use Rattle.tars_frames.specs.Streams.{IsPacket, LENGTH_BYTES, LONGEST};
 ghost use Rattle.rpc_packet.specs.Bodies.{values_of};
-ghost use Rattle.rpc_packet.specs.Packets.{number_at as number_among, bytes_of_layer, request_in, response_in, request_members, response_members};
+ghost use Rattle.rpc_packet.specs.Packets.{number_at as number_among, bytes_at, texts_at, request_in, response_in, request_members, response_members};
 ghost use Rattle.rpc_packet.specs.Outcomes.{IsReadAs, Refuses, IsSendable, IsAnswerable};
 
-use crate::{Request, Response};
-use std::alloc::Global;
+use crate::texts::{into_bytes, into_texts};
+use crate::{Request, Response, TextPair};
+use std::alloc::{AllocError, Global};
 use tars_codec::decode;
 use tars_decode::Refuse;
 use tars_model::{Bytes8, List, Member, Schema, Value};
@@ -49,6 +49,14 @@ fn number_at(values: &[Value], place: usize) -> i64
     }
 }
 
+/// A number that is a `byte`.
+fn kind_at(values: &[Value], place: usize) -> i8
+    requires { is_signed 7 (number_among values.now place) ≡ true }
+    ensures { result ≡ number_among values.now place }
+{
+    number_at(values, place) as i8
+}
+
 /// A number that is a `short`.
 fn short_at(values: &[Value], place: usize) -> i16
     requires { is_signed 15 (number_among values.now place) ≡ true }
@@ -65,46 +73,80 @@ fn int_at(values: &[Value], place: usize) -> i32
     number_at(values, place) as i32
 }
 
-/// The bytes of a text or of a `vector<byte>`.
-fn into_bytes(alloc: Global, value: Value) -> Bytes8
-    ensures { result ≡ bytes_of_layer (out-Value value) }
+/// Takes the bytes of a text or of a `vector<byte>` out.
+fn take_bytes(alloc: Global, values: &mut List<Value>, place: usize) -> Bytes8
+    requires { place < length values.old }
+    ensures said { result ≡ bytes_at values.old place }
+    ensures rest { values.new ≡ remove values.old place }
 {
-    match value {
-        Value::Text(bytes) => bytes,
-        Value::Blob(bytes) => bytes,
-        _ => Bytes8::from_vec(Vec::new(alloc)),
-    }
+    into_bytes(alloc, values.remove(place))
 }
 
-pub(crate) fn request_of(alloc: Global, mut values: List<Value>) -> Request
+/// Takes the entries of a `map<string, string>` out.
+fn take_texts(
+    alloc: Global,
+    values: &mut List<Value>,
+    place: usize,
+) -> Result<List<TextPair>, AllocError>
+    requires { place < length values.old }
+    ensures said { IfOk result (λ texts. texts ≡ texts_at values.old place) }
+    ensures rest { values.new ≡ remove values.old place }
+{
+    into_texts(alloc, values.remove(place))
+}
+
+pub(crate) fn request_of(alloc: Global, mut values: List<Value>) -> Result<Request, AllocError>
     requires { fit_members nothing_declared request_members values ≡ true }
-    ensures said { result ≡ request_in values }
-    ensures fits { IsSendable result }
+    ensures said { IfOk result (λ request. request ≡ request_in values) }
+    ensures fits { IfOk result (λ request. IsSendable request) }
 {
     let version = short_at(values.as_slice(), 0);
+    let kind = kind_at(values.as_slice(), 1);
+    let message = int_at(values.as_slice(), 2);
     let id = int_at(values.as_slice(), 3);
     let timeout = int_at(values.as_slice(), 7);
     // From the last on, so that the places before stay.
-    let body = into_bytes(alloc, values.remove(6));
-    let func = into_bytes(alloc, values.remove(5));
-    let servant = into_bytes(alloc, values.remove(4));
-    Request {
+    let status = take_texts(alloc, &mut values, 9)?;
+    let context = take_texts(alloc, &mut values, 8)?;
+    let body = take_bytes(alloc, &mut values, 6);
+    let func = take_bytes(alloc, &mut values, 5);
+    let servant = take_bytes(alloc, &mut values, 4);
+    Ok(Request {
         version,
+        kind,
+        message,
         id,
         servant,
         func,
         body,
         timeout,
-    }
+        context,
+        status,
+    })
 }
 
-pub(crate) fn response_of(alloc: Global, mut values: List<Value>) -> Response
+pub(crate) fn response_of(alloc: Global, mut values: List<Value>) -> Result<Response, AllocError>
     requires { fit_members nothing_declared response_members values ≡ true }
-    ensures said { result ≡ response_in values }
-    ensures fits { IsAnswerable result }
+    ensures said { IfOk result (λ response. response ≡ response_in values) }
+    ensures fits { IfOk result (λ response. IsAnswerable response) }
 {
+    let version = short_at(values.as_slice(), 0);
+    let kind = kind_at(values.as_slice(), 1);
     let id = int_at(values.as_slice(), 2);
+    let message = int_at(values.as_slice(), 3);
     let ret = int_at(values.as_slice(), 4);
-    let body = into_bytes(alloc, values.remove(5));
-    Response { id, ret, body }
+    // From the last on, so that the places before stay.
+    let note = take_bytes(alloc, &mut values, 7);
+    let status = take_texts(alloc, &mut values, 6)?;
+    let body = take_bytes(alloc, &mut values, 5);
+    Ok(Response {
+        version,
+        kind,
+        id,
+        message,
+        ret,
+        body,
+        status,
+        note,
+    })
 }

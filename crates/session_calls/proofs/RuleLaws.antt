@@ -1,6 +1,6 @@
 -- The rule of a function, and what is too long.
-use Rattle.std.proofs.Common.{◌≡◌, ◌≤◌, ◌<◌, ◌+◌, ◌^◌, ◌⊎◌, inl, inr, ℕ, zero, suc, ℤ, Bool, true, false, cond, List, [], ◌∷◌, length, drop, Option, Some, None, refl, sym, ap, ◌∙◌, subst, arith, add-one, drop-cons}
-use Rattle.std.specs.Prelude.{find, IfSome, ◌==◌, nat_le, slice_index_or}
+use Rattle.std.proofs.Common.{◌≡◌, ◌≤◌, ◌<◌, ◌+◌, ◌^◌, ℕ, ℤ, Bool, true, false, cond, List, [], ◌∷◌, length, drop, Option, Some, None, refl, sym, ap, ◌∙◌, subst, arith, lit<, add-one, drop-cons}
+use Rattle.std.specs.Prelude.{find, IfSome, ◌==◌, slice_index_or}
 use Rattle.std.specs.List.{AllByRecursion}
 use Rattle.std.proofs.lemmas.Bool.{ne_eqb, eqb-true, lt-leb}
 use Rattle.std.proofs.lemmas.List.{drop_all}
@@ -8,7 +8,8 @@ use Rattle.std.proofs.lemmas.List.Elements.{recursion_from_All}
 use Rattle.tars_frames.specs.Streams.{LONGEST}
 use Rattle.tars_model.proofs.CallerLemmas.{int_passes, int_test}
 use Rattle.tars_model.specs.Ranges.{IsInt, is_int}
-use Rattle.rpc_packet.proofs.CallerLemmas.{response_length, response_body_within}
+use Rattle.rpc_packet.proofs.CallerLemmas.{no_texts, response_length, response_body_within}
+use Rattle.rpc_packet.specs.Outcomes.{IsAnswerable}
 use Rattle.rpc_packet.specs.Packets.{response_frame}
 use Rattle.rpc_packet.specs.declared.response.Response.{Response}
 use Rattle.session_model.specs.Judged.{IsJudged, IsRule}
@@ -58,13 +59,22 @@ code_replied n other = go (is_int n) refl
 
 -- ---- lengths
 
--- a response without a body is short
-pub short_code : (r : Response) → r.body ≡ [] → LONGEST < length (response_frame r) → ⊥
-short_code r none long = let most = response_length r in let empty = ap length none in absurd (omega (arith, most, empty, long))
+-- a response with its numbers alone is short
+pub short_code : (r : Response) → r.status ≡ [] → r.note ≡ [] → r.body ≡ [] → LONGEST < length (response_frame r) → ⊥
+short_code r status note body long =
+    let most = response_length r status in
+    let no_note = ap length note in
+    let no_body = ap length body in
+    absurd (omega (arith, most, no_note, no_body, long))
 
 -- an answer with a long body, or with a long frame, is not within the limit
-pub long_frame : (id : ℤ) (a : Answer) → LONGEST < length (response_frame (response_with id a)) → no_values TOO_LONG ≡ within_limit id a
-long_frame id a long = rw (lt-leb (length (response_frame (response_with id a))) LONGEST long) refl
+pub long_frame : (id message : ℤ) (a : Answer) → LONGEST < length (response_frame (response_with id message a)) → no_values TOO_LONG ≡ within_limit id message a
+long_frame id message a long = rw (lt-leb (length (response_frame (response_with id message a))) LONGEST long) refl
 
-pub long_body : (id : ℤ) (a : Answer) → LONGEST < length a.body → no_values TOO_LONG ≡ within_limit id a
-long_body id a long = let least = response_body_within (response_with id a) in long_frame id a (omega (arith, least, long))
+pub long_body : (id message : ℤ) (a : Answer) → LONGEST < length a.body → no_values TOO_LONG ≡ within_limit id message a
+long_body id message a long =
+    let least = response_body_within (response_with id message a) in long_frame id message a (omega (arith, least, long))
+
+-- an answer whose body is short may be written
+pub answerable : (id message : ℤ) (a : Answer) → length a.body < 2 ^ 31 → IsAnswerable (response_with id message a)
+answerable id message a short = record { body = short; status = no_texts; note = lit< tt }

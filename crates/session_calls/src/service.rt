@@ -74,6 +74,23 @@ fn node_of(session: &Session) -> &Endpoint
     &session.object.nodes.as_slice()[0]
 }
 
+/// The response with an answer.
+fn response(alloc: Global, id: i32, message: i32, answer: Answer) -> Response
+    ensures { result ≡ response_with id message answer }
+{
+    let Answer { ret, body } = answer;
+    Response {
+        version: 1,
+        kind: 0,
+        id,
+        message,
+        ret,
+        body,
+        status: List::new(alloc),
+        note: Bytes8::from_vec(Vec::new(alloc)),
+    }
+}
+
 impl<'a> Service<'a> {
     pub fn new(alloc: Global, loaded: &'a Loaded) -> Result<Service<'a>, AllocError>
         ensures { IfOk result (λ service. service ≡ loaded.now) }
@@ -139,11 +156,15 @@ impl<'a> Service<'a> {
         let body = write_values(alloc, &session.client, members.arguments.as_slice(), args)?;
         Ok(Request {
             version: 1,
+            kind: 0,
+            message: 0,
             id: id as i32,
             servant: Bytes8::from_slice(alloc, session.object.id.as_slice())?,
             func: Bytes8::from_slice(alloc, self.func(spec.func).name.as_slice())?,
             body,
             timeout: node_of(session).timeout as i32,
+            context: List::new(alloc),
+            status: List::new(alloc),
         })
     }
 
@@ -168,14 +189,17 @@ impl<'a> Service<'a> {
     }
 
     /// The frame of a return code alone.
-    fn code_alone(&self, alloc: Global, id: i32, ret: i32) -> Result<Bytes8, AllocError>
-        ensures { IfOk result (λ frame. frame ≡ frame_of_response (response_with id (no_values ret))) }
+    fn code_alone(
+        &self,
+        alloc: Global,
+        id: i32,
+        message: i32,
+        ret: i32,
+    ) -> Result<Bytes8, AllocError>
+        ensures { IfOk result (λ frame. frame ≡ frame_of_response (response_with id message (no_values ret))) }
     {
-        let body = Bytes8::from_vec(Vec::new(alloc));
-        match self
-            .packets
-            .write_response(alloc, Response { id, ret, body })
-        {
+        let response = response(alloc, id, message, Answer::no_values(alloc, ret));
+        match self.packets.write_response(alloc, response) {
             Ok(frame) => Ok(frame),
             Err(WriteRefusal::Memory) => Err(AllocError),
             // Beside its body a response is short.
@@ -184,20 +208,25 @@ impl<'a> Service<'a> {
     }
 
     /// The frame of a response, or of the code alone where it would be longer than a packet may be.
-    fn limited(&self, alloc: Global, id: i32, answer: Answer) -> Result<Bytes8, AllocError>
-        ensures { IfOk result (λ frame. frame ≡ frame_of_response (response_with id (within_limit id answer))) }
+    fn limited(
+        &self,
+        alloc: Global,
+        id: i32,
+        message: i32,
+        answer: Answer,
+    ) -> Result<Bytes8, AllocError>
+        ensures { IfOk result (λ frame. frame ≡ frame_of_response (response_with id message (within_limit id message answer))) }
     {
         if answer.body.as_slice().len() > MAX_PACKET {
-            return self.code_alone(alloc, id, TOO_LONG);
+            return self.code_alone(alloc, id, message, TOO_LONG);
         }
-        let Answer { ret, body } = answer;
-        match self
-            .packets
-            .write_response(alloc, Response { id, ret, body })
-        {
+        let response = response(alloc, id, message, answer);
+        match self.packets.write_response(alloc, response) {
             Ok(frame) => Ok(frame),
             Err(WriteRefusal::Memory) => Err(AllocError),
-            Err(WriteRefusal::TooLong { length: _ }) => self.code_alone(alloc, id, TOO_LONG),
+            Err(WriteRefusal::TooLong { length: _ }) => {
+                self.code_alone(alloc, id, message, TOO_LONG)
+            }
         }
     }
 
@@ -208,7 +237,7 @@ impl<'a> Service<'a> {
         ensures { IfOk result (λ frame. frame ≡ frame_of_answer self.now request.now) }
     {
         let answer = self.answer_to(alloc, request)?;
-        self.limited(alloc, request.id, answer)
+        self.limited(alloc, request.id, request.message, answer)
     }
 
     /// The values that the body of a reply says, for a function; none where they do not read.

@@ -2,7 +2,6 @@
 use Rattle.std.specs.Prelude.{◌≡◌, ◌<◌, ◌≤◌, ◌^◌, ℕ, ℤ, pos, List, [], ◌∷◌, length, All}
 use Rattle.tars_model.specs.Members.{arguments_of}
 use Rattle.tars_model.specs.Ranges.{IsInt}
-use Rattle.tars_model.specs.declared.func_desc.FuncDesc.{FuncDesc}
 use Rattle.tars_model.specs.declared.value.Value.{Value, Num}
 use Rattle.tars_codec.specs.Written.{written}
 use Rattle.tars_frames.specs.Streams.{LONGEST}
@@ -18,16 +17,20 @@ use Rattle.session_model.specs.declared.session.Rule.{Rule}
 use Rattle.session_model.specs.declared.session.Rule.TheVariants.{Add}
 use Rattle.session_model.specs.declared.session.Session.{Session}
 
--- the request of a call under an id, to the one object
+-- the request of a call under an id, to the one object: a normal call, message type 0, neither context nor status
 abbrev pub request_of : Session → CallSpec → ℕ → Request
 request_of s spec id =
     record {
       version = pos 1;
+      kind = pos 0;
+      message = pos 0;
       id = pos id;
       servant = s.object.id;
       func = (func_of s spec.func).name;
       body = written s.client (arguments_of (func_of s spec.func)) spec.args;
       timeout = pos (node_of s).timeout;
+      context = [];
+      status = [];
     }
 
 -- ids are 31 bits wide

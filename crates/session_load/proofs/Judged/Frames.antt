@@ -1,5 +1,5 @@
 -- The request of a call of two ints is a frame.
-use Rattle.std.proofs.Common.{◌≤◌, ℕ, ℤ, List, [], ◌∷◌, length, arith, lit<, length-append}
+use Rattle.std.proofs.Common.{◌≡◌, ◌≤◌, ℕ, ℤ, List, [], ◌∷◌, length, arith, lit<, length-append}
 use Rattle.tars_model.specs.Declarations.{Declared}
 use Rattle.tars_model.specs.Members.{required}
 use Rattle.tars_model.specs.declared.member.Member.{Member}
@@ -43,11 +43,12 @@ pub record IsShort (text : List ℕ) (most : ℕ) : Type 0 where
   pub bytes : AreBytes text
   pub within : length text ≤ most
 
-frame_short : (r : Request) → length r.servant ≤ MAX_LINE → length r.func ≤ MAX_NAME → length r.body ≤ TWO_NUMBERS → length (request_frame r) ≤ LONGEST
-frame_short r servant func body = let most = request_length r in omega (arith, most, servant, func, body)
+frame_short : (r : Request) → r.context ≡ [] → r.status ≡ [] → length r.servant ≤ MAX_LINE → length r.func ≤ MAX_NAME → length r.body ≤ TWO_NUMBERS → length (request_frame r) ≤ LONGEST
+frame_short r context status servant func body =
+    let most = request_length r context status in omega (arith, most, servant, func, body)
 
-pub request_is_frame : (r : Request) → IsShort r.servant MAX_LINE → IsShort r.func MAX_NAME → IsShort r.body TWO_NUMBERS → IsFrame (request_frame r)
-request_is_frame r servant func body = record {
-  bytes = request_bytes r servant.bytes func.bytes body.bytes;
-  within = frame_short r servant.within func.within body.within;
+pub request_is_frame : (r : Request) → r.context ≡ [] → r.status ≡ [] → IsShort r.servant MAX_LINE → IsShort r.func MAX_NAME → IsShort r.body TWO_NUMBERS → IsFrame (request_frame r)
+request_is_frame r context status servant func body = record {
+  bytes = request_bytes r context status servant.bytes func.bytes body.bytes;
+  within = frame_short r context status servant.within func.within body.within;
 }

@@ -80,7 +80,7 @@ module _ (s : ScriptText) (d : Declared) (t : Target) (h : IsTarget s d t) where
       line = refl;
       func = is_func;
       args = record { first = number_of a; second = number_of b; are = refl; first_int = first; second_int = second };
-      frames = λ id small. request_is_frame (request_of own (two_way_call t.func n (two_values (number_of a) (number_of b))) id) servant_short func_short (body_short a b);
+      frames = λ id small. request_is_frame (request_of own (two_way_call t.func n (two_values (number_of a) (number_of b))) id) refl refl servant_short func_short (body_short a b);
     }
 
     are_events : (n : ℕ) (es : List EventText) → AllByRecursion (IsEventOf s.func) es → AllByRecursion (IsEvent own) (events_from t.func n es)

@@ -1,18 +1,24 @@
-use Rattle.std.proofs.Common.{◌≡◌, ◌<◌, ◌^◌, List, true, sym, subst, rules}
-use lib.Signed.{mag}
+use Rattle.std.proofs.Common.{◌≡◌, List, true, sym, subst, rules}
 use Rattle.tars_model.specs.Declarations.{nothing_declared}
 use Rattle.tars_model.specs.Values.{fit_members}
 use Rattle.tars_model.specs.declared.value.Value.{Value}
 use Rattle.rpc_packet.specs.Packets.{response_members}
-use Rattle.rpc_packet.proofs.ValuesFit.{response_fits}
+use Rattle.rpc_packet.proofs.Taken.{wide_byte, wide_short, wide_int}
+use Rattle.rpc_packet.proofs.ValuesFit.{HasResponseNumbers, response_fits, same_response_values}
 use Rattle.rpc_packet.proofs.writing.response_values.Goals as goal
 
+numbers : (c : goal.After-from-5) → HasResponseNumbers c.args.response
+numbers c = record { version = search rules; kind = search rules; id = search rules; message = search rules; ret = search rules }
+
 pub returns-clause-value : goal.returns-clause-value
-returns-clause-value c = search rules
+returns-clause-value c =
+    let r = c.args.response in
+    let n = numbers c in
+    same_response_values r _ _ _ _ _ c.in_ok-status.status
+    (wide_short c.from.result r.version c.from.type_inv c.from.ensures n.version) (wide_byte c.from-2.result r.kind c.from-2.type_inv c.from-2.ensures n.kind)
+    (wide_int c.from-3.result r.id c.from-3.type_inv c.from-3.ensures n.id) (wide_int c.from-4.result r.message c.from-4.type_inv c.from-4.ensures n.message)
+    (wide_int c.from-5.result r.ret c.from-5.type_inv c.from-5.ensures n.ret) c.in_ok-status.ensures
 
 pub returns-clause-fits : goal.returns-clause-fits
 returns-clause-fits c =
-    let r = c.args.response in
-    let id : mag r.id < 2 ^ 31 = search rules in
-    let ret : mag r.ret < 2 ^ 31 = search rules in
-    subst (λ (values : List Value). fit_members nothing_declared response_members values ≡ true) (sym (returns-clause-value c)) (response_fits r id ret c.requires)
+    subst (λ (values : List Value). fit_members nothing_declared response_members values ≡ true) (sym (returns-clause-value c)) (response_fits c.args.response (numbers c) c.requires)

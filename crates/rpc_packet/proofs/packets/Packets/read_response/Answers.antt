@@ -19,8 +19,8 @@ returns-in_err-values-clause-read c =
     let is : c.from_residual.result ≡ Err why = search rules in
     rw is refused
 
-pub returns-clause-read : goal.returns-clause-read
+pub returns-in-Ok-clause-read : goal.returns-in-Ok-clause-read
 unfolding read_response
-returns-clause-read c =
+returns-in-Ok-clause-read c =
     let read = rw (c.as_slice.ensures, c.self.invariant.1) at c.in_ok-values.ensures.read in
-    ap (option_map response_in) read ∙ ap Some (sym c.response_of.ensures.said)
+    ap (option_map response_in) read ∙ ap Some (sym c.in-Ok.ensures.said)
