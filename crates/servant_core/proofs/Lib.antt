@@ -1,0 +1,10 @@
+pub mod AnswerLaws
+pub mod CallerLemmas
+pub mod FuncsAt
+pub mod Functions
+pub mod Lengths
+pub mod Meanings
+pub mod Reading
+pub mod Sends
+pub mod Suited
+pub mod Sums
