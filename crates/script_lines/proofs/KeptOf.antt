@@ -8,7 +8,7 @@ use Rattle.std.proofs.lemmas.List.Sums.{fold-append}
 use Rattle.std.proofs.lemmas.List.Folds.{list_any-append}
 use Rattle.script_lines.specs.Forms.{HeaderForm, client, server, interface, object, servant, queue, RuleForm, Said, skipped, header, event}
 use Rattle.script_lines.specs.Objects.{Object}
-use Rattle.script_lines.specs.Meanings.{queue_meant, event_meant}
+use Rattle.script_lines.specs.Meanings.{rule_meant, queue_meant, event_meant}
 use Rattle.script_lines.specs.Faults.{Line, is_event, is_call, is_object, is_again}
 use Rattle.script_lines.specs.Scripts.{one_of, said_by, clients, servers, interfaces, rules, queues, events}
 use Rattle.script_lines.specs.ObjectSteps.{object_at}
@@ -35,9 +35,10 @@ kept_of lines =
     kept (first_of (said_by clients lines)) (first_of (said_by servers lines)) (first_of (said_by interfaces lines)) (first_of (said_by read_objects lines))
     (said_by rules lines) (said_by funcs lines) (first_of (said_by queues lines)) (said_by events lines) (calls_of lines)
 
--- a line whose object and numbers mean something
+-- a line whose object, rule and numbers mean something
 abbrev pub is_sound : Said → Bool
 is_sound (header (object text)) = is_some (object_at text)
+is_sound (header (servant func rule)) = is_some (rule_meant rule)
 is_sound (header (queue capacity timeout)) = is_some (queue_meant capacity timeout)
 is_sound (event form) = is_some (event_meant form)
 is_sound _ = true

@@ -15,5 +15,6 @@ pub mod WalkLaws
 pub mod Singles
 pub mod ScriptLaws
 pub mod LineSplits
+pub mod LimitLaws
 pub mod ReadLaws
 pub mod CallerLemmas

@@ -19,7 +19,6 @@ use Rattle.script_lines.specs.TextLimits.{MAX_CALLS, CALLER, NODE}
 use Rattle.script_lines.specs.FormSteps.{said_at}
 use Rattle.script_lines.specs.ObjectSteps.{object_at}
 use Rattle.script_lines.specs.KeptSteps.{Kept, kept, or_fault, with_client, with_server, with_interface, with_object, with_rule, with_queue, with_event, keep_client, keep_server, keep_interface, keep_object, keep_rule, keep_queue, keep_header, is_empty_list, add_event, keep_event, keep_form, if_short, keep_line}
-use Rattle.script_lines.specs.KeptSteps as step
 use Rattle.script_lines.specs.declared.fault.ScriptWhy.{ScriptWhy}
 use Rattle.script_lines.specs.declared.fault.ScriptWhy.TheVariants.{BadLine, Order, Missing, Twice, BadObject, BadNumber, TooMany}
 use Rattle.script_lines.proofs.FormLaws.{said_takes, said_again}
@@ -81,7 +80,7 @@ add_short true false x = refl
 add_short false true x = refl
 add_short false false x = refl
 
-event_once : (at : ℕ) (k : Kept) (node long calls : Bool) (o : Option Object) (m : Option Event) → ((e : Event) → m ≡ Some e → step.is_call e ≡ calls)
+event_once : (at : ℕ) (k : Kept) (node long calls : Bool) (o : Option Object) (m : Option Event) → ((e : Event) → m ≡ Some e → meant.is_call e ≡ calls)
     → ((if node && is_none o then Err BadNumber else (or_fault m BadNumber >>= λ e. add_event at e k)) >>= unless_long long)
     ≡ verdict (tests false false false (not (is_some m && (not node || is_some o))) (long || (calls && leb MAX_CALLS k.calls))) (or_kept k (option_map (with_event at k) m))
 unfolding or_fault add_event
@@ -90,26 +89,26 @@ event_once at k true long calls None None same = refl
 event_once at k true long calls (Some x) None same = refl
 event_once at k true long calls None (Some e) same = refl
 event_once at k true long calls (Some x) (Some e) same =
-    add_short (step.is_call e && leb MAX_CALLS k.calls) long (with_event at k e) ∙ ap (λ (c : Bool). verdict (tests false false false false (long || (c && leb MAX_CALLS k.calls))) (with_event at k e)) (same e refl)
+    add_short (meant.is_call e && leb MAX_CALLS k.calls) long (with_event at k e) ∙ ap (λ (c : Bool). verdict (tests false false false false (long || (c && leb MAX_CALLS k.calls))) (with_event at k e)) (same e refl)
 event_once at k false long calls o (Some e) same =
-    add_short (step.is_call e && leb MAX_CALLS k.calls) long (with_event at k e) ∙ ap (λ (c : Bool). verdict (tests false false false false (long || (c && leb MAX_CALLS k.calls))) (with_event at k e)) (same e refl)
+    add_short (meant.is_call e && leb MAX_CALLS k.calls) long (with_event at k e) ∙ ap (λ (c : Bool). verdict (tests false false false false (long || (c && leb MAX_CALLS k.calls))) (with_event at k e)) (same e refl)
 
 -- an event's form and its meaning are both a call or both none
-no_call : {X : Type 0} (o : Option X) (f : X → Event) → ((x : X) → step.is_call (f x) ≡ false) → (e : Event) → maybe.◌>>=◌ o (λ x. Some (f x)) ≡ Some e → step.is_call e ≡ false
+no_call : {X : Type 0} (o : Option X) (f : X → Event) → ((x : X) → meant.is_call (f x) ≡ false) → (e : Event) → maybe.◌>>=◌ o (λ x. Some (f x)) ≡ Some e → meant.is_call e ≡ false
 no_call None f none e is = cc
-no_call (Some x) f none e is = subst (λ (e : Event). step.is_call e ≡ false) (some_is (f x) e is) (none x)
+no_call (Some x) f none e is = subst (λ (e : Event). meant.is_call e ≡ false) (some_is (f x) e is) (none x)
 
-is_a_call : {X : Type 0} (o : Option X) (f : X → Event) → ((x : X) → step.is_call (f x) ≡ true) → (e : Event) → maybe.◌>>=◌ o (λ x. Some (f x)) ≡ Some e → step.is_call e ≡ true
+is_a_call : {X : Type 0} (o : Option X) (f : X → Event) → ((x : X) → meant.is_call (f x) ≡ true) → (e : Event) → maybe.◌>>=◌ o (λ x. Some (f x)) ≡ Some e → meant.is_call e ≡ true
 is_a_call None f some e is = cc
-is_a_call (Some x) f some e is = subst (λ (e : Event). step.is_call e ≡ true) (some_is (f x) e is) (some x)
+is_a_call (Some x) f some e is = subst (λ (e : Event). meant.is_call e ≡ true) (some_is (f x) e is) (some x)
 
-event_call : (form : EventForm) (e : Event) → event_meant form ≡ Some e → step.is_call e ≡ is_call (event form)
+pub event_call : (form : EventForm) (e : Event) → event_meant form ≡ Some e → meant.is_call e ≡ is_call (event form)
 unfolding event_meant
 event_call (call caller func args) e is = is_a_call (within CALLER CALLER caller) (λ _. meant.call func args) (λ _. refl) e is
 event_call (serve node count) e is = no_call (read_meant node count) (λ count. meant.serve count) (λ _. refl) e is
 event_call (work node) e is = no_call (within NODE NODE node) (λ _. meant.work) (λ _. refl) e is
 event_call (deliver node count) e is = no_call (read_meant node count) (λ count. meant.deliver count) (λ _. refl) e is
-event_call close e is = subst (λ (e : Event). step.is_call e ≡ false) (some_is meant.close e is) refl
+event_call close e is = subst (λ (e : Event). meant.is_call e ≡ false) (some_is meant.close e is) refl
 
 header_verdict : (earlier : List Line) (at len : ℕ) (form : HeaderForm) → AreSound earlier
     → ((if is_empty_list (kept_of earlier).events then keep_header at form (kept_of earlier) else Err Order) >>= unless_long (is_long len))
@@ -182,7 +181,7 @@ added_next earlier at len (header (object text)) sound none =
     (ap is_some o.1, rw (free, o.1) (simp append-nil))
 added_next earlier at len (header (servant func rule)) sound none =
     let r = some_value (rule_meant rule) (not_false (is_some (rule_meant rule)) (none BadNumber)) in
-    (refl, rw r.1 (simp append-nil))
+    (ap is_some r.1, rw r.1 (simp append-nil))
 added_next earlier at len (header (queue capacity timeout)) sound none =
     let free = first_none (said_by queues earlier) (sym (any_again (queue capacity timeout) earlier sound) ∙ none Twice) in
     let q = some_value (queue_meant capacity timeout) (not_false (is_some (queue_meant capacity timeout)) (none BadNumber)) in

@@ -10,6 +10,8 @@ use Rattle.script_lines.specs.declared.script_lines.ScriptLines.{ScriptLines}
 use Rattle.script_lines.specs.declared.fault.ScriptFault.{ScriptFault}
 use Rattle.script_lines.specs.declared.fault.ScriptRefusal.{ScriptRefusal}
 use Rattle.script_lines.specs.declared.fault.ScriptRefusal.TheVariants.{Fault, Memory}
+use Rattle.script_lines.specs.ScriptLimits.{KeepsLimits}
+use Rattle.script_lines.proofs.LimitLaws.{keeps_limits}
 use Rattle.script_lines.proofs.ScriptLaws.{OutcomeIs, outcome_is, script_outcome, fault_outcome}
 
 abbrev Given : Type 0
@@ -18,6 +20,10 @@ Given = Result ScriptLines ScriptRefusal
 pub read_is : (text : List ℕ) (r : Given) → GivesOutcome r (outcome text) → IfOk r (λ script. IsScript text (script_of script))
 read_is text (Ok script) given = subst (OutcomeIs text) given (outcome_is text)
 read_is text (Err refusal) given = tt
+
+pub limits_are : (text : List ℕ) (r : Given) → GivesOutcome r (outcome text) → IfOk r (λ script. KeepsLimits (script_of script))
+limits_are text (Ok script) given = keeps_limits text (script_of script) (read_is text (Ok script) given)
+limits_are text (Err refusal) given = tt
 
 pub fault_is : (text : List ℕ) (r : Given) → GivesOutcome r (outcome text) → IfErr r (λ refusal. IsRefusalOf text refusal)
 fault_is text (Ok script) given = tt

@@ -7,8 +7,7 @@ use Rattle.facts.specs.ResultSteps.{◌>>=◌}
 use Rattle.script_lines.specs.Lines.{TextLine, text_lines}
 use Rattle.script_lines.specs.Objects.{Object}
 use Rattle.script_lines.specs.Forms.{RuleForm, HeaderForm, client, server, interface, object, servant, queue, EventForm, Said, skipped, header, event}
-use Rattle.script_lines.specs.Meanings.{Rule, Queue, Event, rule_meant, queue_meant, event_meant}
-use Rattle.script_lines.specs.Meanings as meant
+use Rattle.script_lines.specs.Meanings.{Rule, Queue, Event, is_call, rule_meant, queue_meant, event_meant}
 use Rattle.script_lines.specs.Faults.{names_node}
 use Rattle.script_lines.specs.Scripts.{Script, RuleLine, EventLine, InterfaceLine}
 use Rattle.script_lines.specs.TextLimits.{MAX_LINE, MAX_CALLS}
@@ -107,10 +106,6 @@ is_empty_list [] = true
 is_empty_list (x ∷ xs) = false
 
 -- ---- events
-
-abbrev pub is_call : Event → Bool
-is_call (meant.call func args) = true
-is_call _ = false
 
 abbrev pub with_event : ℕ → Kept → Event → Kept
 with_event at k e = kept k.client k.server k.interface k.object k.rules k.funcs k.queue (k.events ++ record { at = at; event = e } ∷ []) (if is_call e then k.calls + 1 else k.calls)

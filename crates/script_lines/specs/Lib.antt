@@ -7,6 +7,7 @@ pub mod Meanings
 pub mod FaultNumbers
 pub mod Faults
 pub mod Scripts
+pub mod ScriptLimits
 pub mod ScanSteps
 pub mod NumberSteps
 pub mod FormSteps

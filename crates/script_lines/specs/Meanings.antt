@@ -1,5 +1,5 @@
 -- What rules, queues and events mean, if their numbers are in range (docs/SCRIPTS.md, "General scripts").
-use Rattle.std.specs.Prelude.{ℕ, ◌&&◌, nat_lt, nat_abs, if◌then◌else◌, ℤ, List, Option, Some, None}
+use Rattle.std.specs.Prelude.{Bool, true, false, ℕ, ◌&&◌, nat_lt, nat_abs, if◌then◌else◌, ℤ, List, Option, Some, None}
 use Rattle.facts.specs.OptionSteps.{◌>>=◌}
 use Rattle.tars_model.specs.Ranges.{is_int}
 use Rattle.script_lines.specs.Forms as form
@@ -31,6 +31,10 @@ pub data Event : Type 0 where
   work : Event
   deliver : Option ℕ → Event
   close : Event
+
+abbrev pub is_call : Event → Bool
+is_call (call func args) = true
+is_call _ = false
 
 -- the return code that a number's text means: an int, and not 0
 unfoldable pub code_meant : List ℕ → Option ℤ

@@ -1,8 +1,7 @@
 ghost use Rattle.std.specs.Prelude.{◌≡◌};
 ghost use Rattle.script_lines.specs.Faults.{names_node};
 ghost use Rattle.script_lines.specs.ViewSteps.{event_form};
-ghost use Rattle.script_lines.specs.KeptSteps.{is_call};
-ghost use Rattle.script_lines.specs.Meanings.{count_meant, read_meant, event_meant};
+ghost use Rattle.script_lines.specs.Meanings.{is_call, count_meant, read_meant, event_meant};
 ghost use Rattle.script_lines.specs.ScanSteps.{Gives};
 ghost use Rattle.script_lines.specs.Views.{event_of, text_of};
 

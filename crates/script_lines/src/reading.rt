@@ -6,6 +6,7 @@ ghost use Rattle.script_lines.specs.AnswerSteps.{KeepsAll, GivesOutcome};
 ghost use Rattle.script_lines.specs.KeptSteps.{keep_lines, nothing_kept, outcome};
 ghost use Rattle.script_lines.specs.Lines.{text_lines, is_feed};
 ghost use Rattle.script_lines.specs.ScriptAnswers.{GivesScript, GivesFault, IsRefusalOf};
+ghost use Rattle.script_lines.specs.ScriptLimits.{KeepsLimits};
 ghost use Rattle.script_lines.specs.Scripts.{IsScript, IsScriptFault, Script};
 ghost use Rattle.script_lines.specs.Views.{script_of};
 ghost use Rattle.script_lines.specs.declared.fault.ScriptFault.{ScriptFault as Fault};
@@ -59,6 +60,8 @@ pub fn read_script(alloc: Global, text: &[u8]) -> Result<ScriptLines<'_>, Script
     requires { length text.now ≤ MAX_FILE }
     // What is given is what the text says.
     ensures read { IfOk result (λ script. IsScript text.now (script_of script)) }
+    // Its calls are within the limit, and no function has two rules.
+    ensures limits { IfOk result (λ script. KeepsLimits (script_of script)) }
     // What a script says is given, unless memory runs out.
     ensures only { (script : Script) → IsScript text.now script → GivesScript result script }
     // A fault is the text's.

@@ -1,4 +1,4 @@
-use Rattle.script_lines.proofs.ReadLaws.{read_is, fault_is, only_is, refused_is}
+use Rattle.script_lines.proofs.ReadLaws.{read_is, limits_are, fault_is, only_is, refused_is}
 use Rattle.script_lines.proofs.reading.read_script.Goals as goal
 
 pub returns-clause-read : goal.returns-clause-read
@@ -12,3 +12,6 @@ returns-clause-fault c = fault_is c.args.text.now c.read_text.result c.read_text
 
 pub returns-clause-refused : goal.returns-clause-refused
 returns-clause-refused c = refused_is c.args.text.now c.read_text.result c.read_text.ensures
+
+pub returns-clause-limits : goal.returns-clause-limits
+returns-clause-limits c = limits_are c.args.text.now c.read_text.result c.read_text.ensures
