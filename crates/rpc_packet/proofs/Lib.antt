@@ -1,5 +1,8 @@
 pub mod FrameBytes
 pub mod Lengths
+pub mod FrameSplit
+pub mod Preparing
+pub mod ShortForms
 pub mod ComesBack
 pub mod Within
 pub mod CallerLemmas

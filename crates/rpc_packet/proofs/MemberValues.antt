@@ -1,6 +1,6 @@
 -- What is told of the values of packets' members: how many they are, and how large numbers, texts and bytes are.
-use Rattle.std.proofs.Common.{◌≡◌, ◌∙◌, ◌<◌, ◌^◌, ℕ, zero, suc, true, pos, List, [], ◌∷◌, length, get_or, sym, refl, ap, arith, lit<, ltb-true}
-use Rattle.std.proofs.lemmas.Bool.{and_parts}
+use Rattle.std.proofs.Common.{◌≡◌, ◌∙◌, ◌<◌, ◌^◌, ℕ, zero, suc, true, pos, List, [], ◌∷◌, length, take, drop, get_or, sym, refl, ap, arith, lit<, ltb-true}
+use Rattle.std.proofs.lemmas.Bool.{and_from, and_parts}
 use Rattle.tars_model.specs.Declarations.{nothing_declared}
 use Rattle.tars_model.specs.Types.{TyLayer}
 use Rattle.tars_model.specs.Values.{Told, told, told_entry, told_layer, is_number_of, is_signed, fits, fits_text, fits_blob, fit_members}
@@ -27,6 +27,21 @@ fits_at [] values k m v e within = absurd (omega arith)
 fits_at (n ∷ ms) [] k m v e within = absurd cc
 fits_at (n ∷ ms) (w ∷ vs) zero m v e within = (and_parts _ _ e).0
 fits_at (n ∷ ms) (w ∷ vs) (suc k) m v e within = fits_at ms vs k m v (and_parts _ _ e).1 (omega (arith, within))
+
+-- parts of values fit these parts of members
+pub fit_drop : (k : ℕ) (members : List Member) (values : List Value) → fit_members nothing_declared members values ≡ true → fit_members nothing_declared (drop k members) (drop k values) ≡ true
+fit_drop zero members values e = e
+fit_drop (suc k) [] [] e = refl
+fit_drop (suc k) [] (v ∷ vs) e = absurd cc
+fit_drop (suc k) (m ∷ ms) [] e = absurd cc
+fit_drop (suc k) (m ∷ ms) (v ∷ vs) e = fit_drop k ms vs (and_parts _ _ e).1
+
+pub fit_take : (k : ℕ) (members : List Member) (values : List Value) → fit_members nothing_declared members values ≡ true → fit_members nothing_declared (take k members) (take k values) ≡ true
+fit_take zero members values e = refl
+fit_take (suc k) [] [] e = refl
+fit_take (suc k) [] (v ∷ vs) e = absurd cc
+fit_take (suc k) (m ∷ ms) [] e = absurd cc
+fit_take (suc k) (m ∷ ms) (v ∷ vs) e = and_from _ _ (and_parts _ _ e).0 (fit_take k ms vs (and_parts _ _ e).1)
 
 -- ---- one value
 

@@ -113,3 +113,8 @@ pub response_packet : (r : Response) → length (response_frame r) ≤ LONGEST �
 unfolding response_frame
 response_packet r within =
     whole_packet (written nothing_declared response_members (response_values r)) (omega (arith, response_whole r)) within
+
+-- a request whose frame is that of a body within the limit
+pub filled_packet : (body : List ℕ) (r : Request) → framed body ≡ request_frame r → LENGTH_BYTES + length body ≤ LONGEST → IsPacket LONGEST (request_frame r)
+filled_packet body r is within =
+    request_packet r (subst (λ (frame : List ℕ). length frame ≤ LONGEST) is (omega (arith, framed_length body, within)))

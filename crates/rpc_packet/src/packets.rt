@@ -38,6 +38,13 @@ impl Packets {
         Ok(Packets { request, response })
     }
 
+    /// The members of a request.
+    pub(crate) fn request_members(&self) -> &[Member]
+        ensures { result.now ≡ members_of_request }
+    {
+        self.request.as_slice()
+    }
+
     /// The request in a packet.
     pub fn read_request(&self, alloc: Global, packet: &[u8]) -> Result<Request, Refuse>
         requires packet { IsPacket LONGEST packet.now }
