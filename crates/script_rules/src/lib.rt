@@ -11,7 +11,6 @@ mod laws;
 mod params;
 mod rule_fault;
 mod rules;
-mod types;
 
 pub use calls::read_call;
 pub use functions::function_of;

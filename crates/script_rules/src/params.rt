@@ -7,7 +7,6 @@ ghost use Rattle.script_rules.specs.Rules.{NamedAt, IsEchoed, AreAdded};
 ghost use Rattle.servant_core.specs.Rules.{IsWhole, is_whole};
 ghost use Rattle.tars_model.specs.declared.ty.Ty.{Ty as Kind, out-Ty};
 
-use crate::types::is_same;
 use tars_model::{FuncDesc, Ty};
 
 /// The place of the parameter of a name among those that are not `out`, from 0, and its type.
@@ -39,7 +38,7 @@ pub fn echoed(func: &FuncDesc, name: &[u8]) -> Option<u32>
         return None;
     };
     let (place, ty) = param_named(func, name)?;
-    if is_same(ty, returned) {
+    if ty.is_same(returned) {
         Some(place)
     } else {
         None

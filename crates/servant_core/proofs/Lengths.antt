@@ -10,7 +10,7 @@ use Rattle.rpc_packet.proofs.CallerLemmas.{response_length, response_body_within
 use Rattle.rpc_packet.specs.Packets.{response_frame}
 use Rattle.rpc_packet.specs.declared.request.Request.{Request}
 use Rattle.rpc_packet.specs.declared.response.Response.{Response}
-use Rattle.servant_core.specs.Answers.{SUCCESS, TOO_LONG, is_one, response_to, code_alone, is_long, members_returned, within_limit, replied, answered_call, answered_by, answered_two_way, answered, asked_call, refusal}
+use Rattle.servant_core.specs.Answers.{SUCCESS, TOO_LONG, is_one, response_to, code_alone, is_long, members_returned, within_limit, replied, answered_call, answered_by, answered_two_way, answered, unseen, asked_call, refusal}
 use Rattle.servant_core.specs.Functions.{functions_of}
 use Rattle.servant_core.specs.Servants.{Handled}
 use Rattle.servant_core.specs.declared.replies.Reply.{Reply}
@@ -66,3 +66,11 @@ answered_short d interface name reply r now = by_test (is_one r.kind)
     by_test : (b : Bool) → IfSome (cond b None (answered_two_way d interface name reply r now)) IsShort
     by_test true = tt
     by_test false = by_short d (functions_of d interface) reply r (asked_call d (functions_of d interface) r now) (refusal d interface name r)
+
+pub unseen_short : (r : Request) (code : ℤ) → IfSome (unseen r code) IsShort
+unfolding unseen
+unseen_short r code = by_test (is_one r.kind)
+  where
+    by_test : (b : Bool) → IfSome (cond b None (Some (code_alone r code))) IsShort
+    by_test true = tt
+    by_test false = code_short r code

@@ -38,6 +38,14 @@ NO_FUNCTION = neg_ℤ (pos 3)
 abbrev pub NO_SERVANT : ℤ
 NO_SERVANT = neg_ℤ (pos 4)
 
+-- a request waited in the node's queue for longer than it may
+abbrev pub QUEUE_TIMEOUT : ℤ
+QUEUE_TIMEOUT = neg_ℤ (pos 6)
+
+-- the node's queue is full
+abbrev pub OVERLOAD : ℤ
+OVERLOAD = neg_ℤ (pos 9)
+
 -- ---- what a request asks for
 
 -- a function that every servant has, by which a caller asks whether it is there
@@ -156,3 +164,7 @@ handled_by d interface name r now = handled_where (refusal d interface name r) (
 -- a one-way request gets no response
 unfoldable pub answered : Declared → ℕ → List ℕ → (Handled → Reply) → Request → ℕ → Option Response
 answered d interface name reply r now = if is_one r.kind then None else answered_two_way d interface name reply r now
+
+-- a return code to a request that no servant sees; a one-way request gets no response
+unfoldable pub unseen : Request → ℤ → Option Response
+unseen r code = if is_one r.kind then None else Some (code_alone r code)

@@ -1,19 +1,20 @@
 //! Laws of responses and servants. The functions do nothing: they are their contracts.
 
-ghost use Rattle.std.specs.Prelude.{◌≤◌, ◌++◌, ℕ, List, length, IfSome};
+ghost use Rattle.std.specs.Prelude.{◌≤◌, ◌++◌, ℕ, ℤ, List, length, IfSome};
 ghost use Rattle.tars_frames.specs.Streams.{LONGEST};
 ghost use Rattle.tars_model.specs.Declarations.{Declared};
 ghost use Rattle.tars_model.specs.declared.func_desc.FuncDesc.{FuncDesc as AFunc};
 ghost use Rattle.rpc_packet.specs.Packets.{response_frame};
 ghost use Rattle.rpc_packet.specs.declared.request.Request.{Request as ARequest};
-ghost use Rattle.servant_core.specs.Answers.{answered};
+ghost use Rattle.servant_core.specs.Answers.{answered, unseen};
 ghost use Rattle.servant_core.specs.Servants.{Always, Handled, IsAfter, IsSuited, Meaning};
 ghost use Rattle.servant_core.specs.declared.replies.Reply.{Reply};
 
 /// No response is longer than a packet may be, whatever the servant replies.
-#[tactic(auto, using(crate::proofs::Lengths::answered_short))]
+#[tactic(auto, using(crate::proofs::Lengths::answered_short, crate::proofs::Lengths::unseen_short))]
 pub fn responses_are_packets()
-    ensures { (d : Declared) (interface : ℕ) (name : List ℕ) (reply : Handled → Reply) (r : ARequest) (now : ℕ)
+    ensures unseen { (r : ARequest) (code : ℤ) → IfSome (unseen r code) (λ response. length (response_frame response) ≤ LONGEST) }
+    ensures answered { (d : Declared) (interface : ℕ) (name : List ℕ) (reply : Handled → Reply) (r : ARequest) (now : ℕ)
         → IfSome (answered d interface name reply r now) (λ response. length (response_frame response) ≤ LONGEST) }
 {}
 

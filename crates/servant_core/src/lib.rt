@@ -18,6 +18,7 @@ mod table_servant;
 pub use answering::answer;
 pub use laws::{responses_are_packets, runs_go_on};
 pub use replies::Reply;
+pub use responding::{overloaded, timed_out};
 pub use rules::Rule;
 pub use servant::Servant;
 pub use table_servant::TableServant;

@@ -5,7 +5,7 @@ ghost use Rattle.tars_model.specs.Members.{MAX_PARAMS, HaveRisingTags, reply_mem
 ghost use Rattle.tars_model.specs.Values.{fit_members};
 ghost use Rattle.tars_codec.specs.Written.{written};
 ghost use Rattle.tars_decode.specs.Decoding.{MembersFit};
-ghost use Rattle.servant_core.specs.Answers.{is_long as is_long_is, code_alone as code_alone_is, response_to as response_to_is, within_limit as limited_is, replied as replied_is};
+ghost use Rattle.servant_core.specs.Answers.{OVERLOAD as REFUSED_FULL, QUEUE_TIMEOUT as WAITED, is_one, unseen as unseen_is, is_long as is_long_is, code_alone as code_alone_is, response_to as response_to_is, within_limit as limited_is, replied as replied_is};
 ghost use Rattle.servant_core.specs.Servants.{IsReplyUnder};
 
 use crate::Reply;
@@ -16,6 +16,12 @@ use tars_codec::{encode, encoded_len};
 use tars_model::{Bytes8, FuncDesc, List, Member, Schema, Value, reply_of};
 
 pub(crate) const SUCCESS: i32 = 0;
+
+/// A request waited in the node's queue for longer than it may.
+const QUEUE_TIMEOUT: i32 = -6;
+
+/// The node's queue is full.
+const OVERLOAD: i32 = -9;
 
 /// What comes back is too long.
 const TOO_LONG: i32 = -2;
@@ -46,6 +52,37 @@ pub(crate) fn code_alone(alloc: Global, request: &Request, code: i32) -> Respons
     ensures { result ≡ code_alone_is request.now code }
 {
     response_to(alloc, request, code, Bytes8::from_vec(Vec::new(alloc)))
+}
+
+pub(crate) fn is_one_way(request: &Request) -> bool
+    ensures { result ≡ is_one request.now.kind }
+{
+    request.kind == 1
+}
+
+/// A return code to a request that no servant sees.
+#[tactic(auto, unfolding(crate::specs::Answers::unseen))]
+pub(crate) fn unseen(alloc: Global, request: &Request, code: i32) -> Option<Response>
+    ensures { result ≡ unseen_is request.now code }
+{
+    if is_one_way(request) {
+        return None;
+    }
+    Some(code_alone(alloc, request, code))
+}
+
+/// What is answered to a request that comes when the node's queue is full. None where it is one-way.
+pub fn overloaded(alloc: Global, request: &Request) -> Option<Response>
+    ensures { result ≡ unseen_is request.now REFUSED_FULL }
+{
+    unseen(alloc, request, OVERLOAD)
+}
+
+/// What is answered to a request that waited in the node's queue for longer than it may. None where it is one-way.
+pub fn timed_out(alloc: Global, request: &Request) -> Option<Response>
+    ensures { result ≡ unseen_is request.now WAITED }
+{
+    unseen(alloc, request, QUEUE_TIMEOUT)
 }
 
 /// Whether a response with this body is longer than a packet may be.

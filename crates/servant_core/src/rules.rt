@@ -1,4 +1,7 @@
-use tars_model::Value;
+ghost use Rattle.std.specs.Prelude.{◌≡◌, IfOk};
+
+use std::alloc::{AllocError, Global};
+use tars_model::{Value, copy_value};
 
 /// How a table replies to the calls of a function. Arguments go by their places among the parameters that are not `out`, from 0.
 #[derive(Drop)]
@@ -13,4 +16,19 @@ pub enum Rule {
     Code(i32),
     /// It sends no response.
     Silent,
+}
+
+impl Rule {
+    /// The same rule once more.
+    pub fn copy(&self, alloc: Global) -> Result<Rule, AllocError>
+        ensures { IfOk result (λ rule. rule ≡ self.now) }
+    {
+        Ok(match self {
+            Rule::Value(value) => Rule::Value(copy_value(alloc, value)?),
+            Rule::Echo(place) => Rule::Echo(*place),
+            Rule::Add(first, second) => Rule::Add(*first, *second),
+            Rule::Code(code) => Rule::Code(*code),
+            Rule::Silent => Rule::Silent,
+        })
+    }
 }

@@ -5,6 +5,7 @@
 
 mod bytes8;
 mod const_desc;
+mod copied;
 mod copying;
 mod decl;
 mod defaults;

@@ -2,6 +2,7 @@ ghost use Rattle.std.specs.Prelude.{◌≡◌, ◌<◌, ◌^◌, [], ◌∷◌, 
 ghost use Rattle.tars_model.specs.Declarations.{nothing_declared, members_at, items_at, with_struct, with_enum, with_const, with_key, with_interface};
 ghost use Rattle.tars_model.specs.Schemas.{IsSchema, StructFits, EnumFits, ConstFits, KeyFits, InterfaceFits};
 
+use crate::copied::all_copied;
 use crate::{ConstDesc, Decl, EnumDesc, InterfaceDesc, Item, KeyDesc, List, Member, StructDesc};
 use std::alloc::{AllocError, Global};
 use std::marker::Model;
@@ -68,6 +69,20 @@ impl Schema {
             interfaces: List::new(alloc),
             order: List::new(alloc),
         }
+    }
+
+    /// The same schema once more.
+    pub fn copy(&self, alloc: Global) -> Result<Schema, AllocError>
+        ensures { IfOk result (λ copy. copy ≡ self.now) }
+    {
+        Ok(Schema {
+            structs: all_copied(alloc, &self.structs)?,
+            enums: all_copied(alloc, &self.enums)?,
+            consts: all_copied(alloc, &self.consts)?,
+            keys: all_copied(alloc, &self.keys)?,
+            interfaces: all_copied(alloc, &self.interfaces)?,
+            order: all_copied(alloc, &self.order)?,
+        })
     }
 
     pub fn structs(&self) -> &[StructDesc]

@@ -1,4 +1,4 @@
-ghost use Rattle.std.specs.Prelude.{◌≡◌, IfOk};
+ghost use Rattle.std.specs.Prelude.{◌≡◌, true, IfOk};
 
 use sqlite_items::Boxed;
 use std::alloc::{AllocError, Global};
@@ -52,5 +52,33 @@ impl Ty {
                 Ty::Map(key, value)
             }
         })
+    }
+
+    /// Whether this is the same type as another.
+    pub fn is_same(&self, other: &Ty) -> bool
+        ensures yes { result ≡ true → self.now ≡ other.now }
+        ensures no { self.now ≡ other.now → result ≡ true }
+    {
+        match self {
+            Ty::Bool => matches!(other, Ty::Bool),
+            Ty::Byte => matches!(other, Ty::Byte),
+            Ty::Short => matches!(other, Ty::Short),
+            Ty::Int => matches!(other, Ty::Int),
+            Ty::Long => matches!(other, Ty::Long),
+            Ty::UByte => matches!(other, Ty::UByte),
+            Ty::UShort => matches!(other, Ty::UShort),
+            Ty::UInt => matches!(other, Ty::UInt),
+            Ty::Text => matches!(other, Ty::Text),
+            Ty::Enum(number) => matches!(other, Ty::Enum(n) if n == number),
+            Ty::Struct(number) => matches!(other, Ty::Struct(n) if n == number),
+            Ty::Vector(of) => match other {
+                Ty::Vector(o) => of.get().is_same(o.get()),
+                _ => false,
+            },
+            Ty::Map(key, to) => match other {
+                Ty::Map(k, t) => key.get().is_same(k.get()) && to.get().is_same(t.get()),
+                _ => false,
+            },
+        }
     }
 }
