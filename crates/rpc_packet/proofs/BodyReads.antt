@@ -40,7 +40,7 @@ values_read members bytes result are each judged = by_reading (reading bytes)
   where
     by_reading : (r : Reading bytes) → IsReadAs result (values_in nothing_declared members r)
     by_reading (body fields spelled) = answer_read result (reads nothing_declared members fields) (each fields spelled)
-    by_reading (no_body none) = none_read bytes result judged (none are)
+    by_reading (no_body fault is) = none_read bytes result judged (is are).no_body
 
 pub values_refused : (members : List Member) (bytes : List ℕ) (result : Result (List Value) Refuse) → Each members bytes result → Judges bytes result → IfErr result (Refuses members bytes)
 values_refused members bytes (Ok values) each judged = tt

@@ -46,7 +46,7 @@ spelled_reads d members bytes fields values small is_spelled reads_so = by_readi
     by_reading : (r : Reading bytes) → values_in d members r ≡ Some values
     by_reading (body others other_spelled) =
         ap (λ (fs : WireFields). unless_refused (reads d members fs)) (one_reading_law MAX_DEPTH MAX_DEPTH bytes others fields other_spelled is_spelled) ∙ ap unless_refused reads_so
-    by_reading (no_body none) = absurd (none small (record { fields = fields; spelled = is_spelled }))
+    by_reading (no_body fault is) = absurd ((is small).no_body (record { fields = fields; spelled = is_spelled }))
 
 -- members that may be read
 pub record AreReadable (d : Declared) (members : List Member) : Type 0 where

@@ -23,7 +23,7 @@ module _ (d : Declared) (members : List Member) (bytes : List ℕ) where
     where
       by_reading : (r : Reading bytes) → unless_refused read ≡ values_in d members r
       by_reading (body fields spelled) = rw (reads_as fields spelled) refl
-      by_reading (no_body none) = absurd (none small is_body)
+      by_reading (no_body fault is) = absurd ((is small).no_body is_body)
 
   pub values_read : (values : List Value) → AreBytes bytes → IsBody bytes → ReadsAs (Ok values) → Some values ≡ values_of d members bytes
   values_read values small is_body reads_as = read_as (Ok values) small is_body reads_as
@@ -37,4 +37,4 @@ module _ (d : Declared) (members : List Member) (bytes : List ℕ) where
     where
       by_reading : (r : Reading bytes) → None ≡ values_in d members r
       by_reading (body fields spelled) = absurd (is_fault.no_body (record { fields = fields; spelled = spelled }))
-      by_reading (no_body none) = refl
+      by_reading (no_body fault is) = refl

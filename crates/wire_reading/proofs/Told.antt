@@ -1,4 +1,4 @@
--- All lists of numbers can be told: they are a body with its fields, or none.
+-- All lists of numbers can be told: they are a body with its fields, or none, with its fault.
 use Rattle.std.proofs.Common.{◌≡◌, ◌<◌, ◌≤◌, ◌⊎◌, inl, inr, ℕ, Bool, true, false, ltb, List, [], ◌∷◌, refl, arith}
 use Rattle.std.specs.List.{AllByRecursion}
 use Rattle.std.proofs.lemmas.List.Elements.{recursion_from_All}
@@ -6,6 +6,7 @@ use Rattle.std.proofs.lemmas.Bool.{ltb-true, ltb-false}
 use Rattle.tars_wire.specs.Faults.{HasFault}
 use Rattle.tars_wire.specs.Spelled.{IsBody}
 use Rattle.tars_wire.proofs.Machine.Faults.{some_outcome}
+use Rattle.tars_wire.specs.declared.wire_fault.WireWhy.TheVariants.{Short}
 use Rattle.wire_reading.specs.Readings.{Reading, body, no_body}
 
 abbrev Small : List ℕ → Type 0
@@ -28,11 +29,12 @@ small_or_not (byte ∷ bytes) = first (ltb byte 256) refl (small_or_not bytes)
 
 of_outcome : (bytes : List ℕ) → IsBody bytes ⊎ HasFault bytes → Reading bytes
 of_outcome bytes (inl is_body) = body is_body.fields is_body.spelled
-of_outcome bytes (inr fault) = no_body (λ small is_body. fault.1.no_body is_body)
+of_outcome bytes (inr fault) = no_body fault.0 (λ small. fault.1)
 
 pub told : (bytes : List ℕ) → Reading bytes
 told bytes = go (small_or_not bytes)
   where
     go : Small bytes ⊎ (Small bytes → ⊥) → Reading bytes
     go (inl small) = of_outcome bytes (some_outcome bytes small)
-    go (inr not_small) = no_body (λ small is_body. not_small (recursion_from_All (λ byte. byte < 256) bytes small))
+    -- of what are no bytes nothing is claimed
+    go (inr not_small) = no_body (record { at = 0; why = Short }) (λ small. absurd (not_small (recursion_from_All (λ byte. byte < 256) bytes small)))
