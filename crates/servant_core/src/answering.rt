@@ -14,7 +14,7 @@ ghost use Rattle.servant_core.specs.Servants.{Always, IsAfter, IsSuited};
 
 use crate::Servant;
 use crate::funcs::{func_at, funcs_of};
-use crate::responding::{SUCCESS, is_one_way, replied, unseen};
+use crate::responding::{SUCCESS, code_alone, is_one_way, replied};
 use rpc_packet::{Packets, Request, Response};
 use std::alloc::{AllocError, Global};
 use tars_codec::decode;
@@ -163,7 +163,12 @@ pub fn answer<S: Servant>(
     ensures handled { OnOk result (IsAfter (S.meaning servant.old) (handled_by schema.now interface name.now request.now now) (S.meaning servant.new)) }
 {
     match asked_by(alloc, schema, interface, name, request)? {
-        Asked::Code(code) => Ok(unseen(alloc, request, code)),
+        Asked::Code(code) => {
+            if is_one_way(request) {
+                return Ok(None);
+            }
+            Ok(Some(code_alone(alloc, request, code)))
+        }
         Asked::Call { func, args } => {
             let reply = servant.reply(alloc, func, args.as_slice(), now)?;
             if is_one_way(request) {

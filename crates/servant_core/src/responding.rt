@@ -62,7 +62,7 @@ pub(crate) fn is_one_way(request: &Request) -> bool
 
 /// A return code to a request that no servant sees.
 #[tactic(auto, unfolding(crate::specs::Answers::unseen))]
-pub(crate) fn unseen(alloc: Global, request: &Request, code: i32) -> Option<Response>
+fn unseen(alloc: Global, request: &Request, code: i32) -> Option<Response>
     ensures { result ≡ unseen_is request.now code }
 {
     if is_one_way(request) {
