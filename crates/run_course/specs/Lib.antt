@@ -1,0 +1,6 @@
+pub mod Nodes
+pub mod Courses
+pub mod Planned
+pub mod Legal
+pub mod LegalReports
+pub mod OneNode
