@@ -59,6 +59,12 @@ pub record IsRead (s : Session) (link : Link) : Type 0 where
   pub delivered_within : link.delivered ≤ length (answers_stream link)
   pub packets : map (λ (row : GotRow). row.packet) link.got ≡ packets_to link.delivered (answers_stream link)
 
+-- no event moves the moment yet: it is 0, and so is that of each offer and that at which each request was taken
+pub record IsStill (c : Course) : Type 0 where
+  pub moment : c.moment ≡ 0
+  pub offered : (node : ℕ) (link : Link) (k : ℕ) (offer : Offer) → IsLinkAt c node link → IsOfferAt link.node k offer → offer.moment ≡ 0
+  pub taken : (node : ℕ) (link : Link) (k now : ℕ) → IsLinkAt c node link → slice_get link.node.taken k ≡ Some now → now ≡ 0
+
 -- How calls end.
 
 abbrev pub got_of : Option Link → List GotRow

@@ -1,5 +1,5 @@
-//! Values of the interface language as text, and back (docs/SCRIPTS.md, "Value text"). `print_value` writes a value in
-//! its one printed form; `read_value` reads the value that stands at the start of a text, or says where and why none
+//! Values of the interface language as text, and back (docs/SCRIPTS.md, "Value text"). `print_value` and
+//! `put_value` write a value in its one printed form; `read_value` reads the value that stands at the start of a text, or says where and why none
 //! does; `read_whole` does the same of the text of a value file.
 //!
 //! Read `specs/Printed.antt` first, which says how a value is printed, then `specs/Spelling.antt`, which says what texts
@@ -16,6 +16,6 @@ mod texts;
 mod value_fault;
 mod values;
 
-pub use printing::print_value;
+pub use printing::{print_value, put_value};
 pub use reading::{one_fault, one_value, read_value, read_whole};
 pub use value_fault::{ValueFault, ValueWhy};

@@ -151,9 +151,10 @@ fn put_struct(
     }
 }
 
+/// Adds the text of a value of the type.
 #[cycle(printing)]
 #[tactic(auto, using(crate::proofs::Layers::bool_printed, crate::proofs::Layers::num_printed, crate::proofs::Layers::text_printed, crate::proofs::Layers::blob_printed, crate::proofs::Layers::list_printed, crate::proofs::Layers::map_printed, crate::proofs::Layers::struct_printed))]
-fn put_value(
+pub fn put_value(
     value: &Value,
     text: &mut TextBuffer,
     schema: &Schema,

@@ -1,0 +1,17 @@
+pub mod Lists
+pub mod Links
+pub mod Got
+pub mod Ends
+pub mod Named
+pub mod Nodes
+pub mod Streams
+pub mod Events
+pub mod Runs
+pub mod Moments
+pub mod Sent
+pub mod Openings
+pub mod OneLink
+pub mod SentRows
+pub mod OneNode
+pub mod Worked
+pub mod Reports

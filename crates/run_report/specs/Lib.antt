@@ -1,0 +1,4 @@
+pub mod EndText
+pub mod ReportText
+pub mod CallNumbers
+pub mod Views

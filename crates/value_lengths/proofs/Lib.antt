@@ -1,0 +1,5 @@
+pub mod Numbers
+pub mod Entries
+pub mod Values
+pub mod Calls
+pub mod CallerLemmas
