@@ -1,0 +1,16 @@
+pub mod ListLaws
+pub mod ValueBytes
+pub mod ProjectedBytes
+pub mod SchemaBytes
+pub mod FuncMembers
+pub mod Bodies
+pub mod Replies
+pub mod CallAnswers
+pub mod WideCodes
+pub mod CallEnds
+pub mod JudgedCalls
+pub mod Fronts
+pub mod Sendings
+pub mod Exchanges
+pub mod Reported
+pub mod Rests
