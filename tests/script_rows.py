@@ -150,7 +150,8 @@ def say(lines) -> str:
     return out + "".join(f"; {at} {event_text(said)}" for at, said in events)
 
 
-def read(text: bytes) -> str:
+def judged(text: bytes) -> tuple:
+    """The first fault of a text, as its number and place, if it has one, and the lines before it with their places."""
     pieces = text.split(b"\n")
     if pieces[-1] == b"":
         pieces.pop()
@@ -159,12 +160,17 @@ def read(text: bytes) -> str:
         said = form(piece)
         found = faults(piece, said, [other for _, other in lines])
         if found:
-            return f"fault {min(found)} {at}"
+            return (min(found), at), lines
         lines.append((at, said))
         at += len(piece) + 1
     if not {"client", "interface", "object"} <= {said[0] for _, said in lines}:
-        return f"fault 3 {len(text)}"
-    return say(lines)
+        return (3, len(text)), lines
+    return None, lines
+
+
+def read(text: bytes) -> str:
+    fault, lines = judged(text)
+    return f"fault {fault[0]} {fault[1]}" if fault else say(lines)
 
 
 def bytes_of(row: str) -> bytes:

@@ -69,16 +69,25 @@ def default_of(kind):
     return 0
 
 
+class Func(NamedTuple):
+    returns: object
+    # Each a name, a type, and whether it comes back.
+    params: list
+
+
 class File:
     """Reads the declarations of an interface file."""
 
     def __init__(self, text: str):
         self.tokens = re.findall(r'"[^"]*"|-?\w+|[{}<>,;=]', text)
-        self.declared = {}
+        self.declared, self.interfaces = {}, {}
         self.take(3)
         while not self.takes("}"):
             word, name, _ = self.take(3)
-            self.declared[name] = self.enum() if word == "enum" else self.struct()
+            if word == "interface":
+                self.interfaces[name] = self.funcs()
+            else:
+                self.declared[name] = self.enum() if word == "enum" else self.struct()
             self.take(1)
 
     def last_struct(self) -> Struct:
@@ -111,6 +120,20 @@ class File:
             members.append(Member(int(tag), word == "require", kind, name, default))
             self.take(1)
         return Struct(sorted(members, key=lambda member: member.tag))
+
+    def funcs(self) -> dict:
+        found = {}
+        while not self.takes("}"):
+            returns = None if self.takes("void") else self.type()
+            [name] = self.take(1)
+            params = []
+            while not self.takes(";"):
+                out = self.takes("out")
+                kind = self.type()
+                params.append((*self.take(1), kind, out))
+                self.takes(",")
+            found[name] = Func(returns, params)
+        return found
 
     def type(self):
         [word] = self.take(1)
