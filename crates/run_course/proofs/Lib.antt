@@ -1,5 +1,6 @@
 pub mod Lists
 pub mod Links
+pub mod Merges
 pub mod Got
 pub mod Ends
 pub mod Named

@@ -1,7 +1,9 @@
 -- What stands at the places of lists, and what holds after all items of one.
-use Rattle.std.proofs.Common.{◌≡◌, ◌⊎◌, inl, inr, ℕ, zero, suc, pred, Bool, true, false, cond, ◌||◌, List, [], ◌∷◌, ◌++◌, length, Option, Some, None, refl, sym, ap, map, ◌<◌, ◌+◌, arith, take, ◌∙◌}
+use Rattle.std.proofs.Common.{◌≡◌, ◌⊎◌, inl, inr, ℕ, zero, suc, pred, Bool, true, false, cond, ◌||◌, List, [], ◌∷◌, ◌++◌, length, Option, Some, None, refl, sym, ap, map, ◌<◌, ◌+◌, ◌≤◌, arith, take, ◌∙◌}
 use Rattle.std.proofs.lemmas.List.Sums.{sum_by-append}
-use Rattle.std.specs.Prelude.{slice_get, fold, filter_map, count_by}
+use Rattle.std.proofs.lemmas.Grind.{flat_map-append}
+use Rattle.std.proofs.lemmas.List.{append-nil}
+use Rattle.std.specs.Prelude.{slice_get, fold, filter_map, flat_map, zip, count_by}
 use Rattle.std.specs.List.{list_any, AllByRecursion}
 
 pub some_same : {X : Type 0} (x y : X) → (let a : Option X = Some x in a) ≡ Some y → x ≡ y
@@ -89,6 +91,24 @@ all_more P (y ∷ xs) x all last = (all.0, all_more P xs x all.1 last)
 pub all_map : {X Y : Type 0} (P : X → Type 0) (Q : Y → Type 0) (f : X → Y) (xs : List X) → ((x : X) → P x → Q (f x)) → AllByRecursion P xs → AllByRecursion Q (map f xs)
 all_map P Q f [] goes all = record {}
 all_map P Q f (x ∷ xs) goes all = (goes x all.0, all_map P Q f xs goes all.1)
+
+pub flat_map_last : {X Y : Type 0} (f : X → List Y) (xs : List X) (x : X) → flat_map f (xs ++ x ∷ []) ≡ flat_map f xs ++ f x
+flat_map_last f xs x = flat_map-append f xs (x ∷ []) ∙ ap (λ ys. flat_map f xs ++ ys) (append-nil (f x))
+
+-- items beside others, where more are added to either
+zip_none : {X Y : Type 0} (xs : List X) → zip xs (let none : List Y = [] in none) ≡ []
+zip_none [] = refl
+zip_none (x ∷ xs) = refl
+
+pub zip_longer : {X Y : Type 0} (xs more : List X) (ys : List Y) → length ys ≤ length xs → zip (xs ++ more) ys ≡ zip xs ys
+zip_longer xs more [] within = zip_none (xs ++ more) ∙ sym (zip_none xs)
+zip_longer [] more (y ∷ ys) within = absurd (omega (arith, within))
+zip_longer (x ∷ xs) more (y ∷ ys) within = ap (λ pairs. (x, y) ∷ pairs) (zip_longer xs more ys (omega (arith, within)))
+
+pub zip_last : {X Y : Type 0} (xs : List X) (ys : List Y) (x : X) (y : Y) → slice_get xs (length ys) ≡ Some x → zip xs (ys ++ y ∷ []) ≡ zip xs ys ++ (x, y) ∷ []
+zip_last [] ys x y e = absurd (none_some x e)
+zip_last (z ∷ xs) [] x y e = ap (λ w. (w, y) ∷ zip xs []) (some_same z x e) ∙ ap (λ pairs. (x, y) ∷ pairs) (zip_none xs)
+zip_last (z ∷ xs) (w ∷ ys) x y e = ap (λ pairs. (z, w) ∷ pairs) (zip_last xs ys x y e)
 
 -- counting by one test or another
 pub count_cons : {X : Type 0} (p : X → Bool) (x : X) (xs : List X) → count_by p (x ∷ xs) ≡ cond (p x) 1 0 + count_by p xs

@@ -1,6 +1,6 @@
 -- What holds of a node, whatever it is offered and whenever it takes.
 use Rattle.std.proofs.Common.{◌≡◌, ◌≤◌, ◌⊎◌, inl, inr, ℕ, suc, Bool, true, false, List, [], ◌∷◌, ◌++◌, length, map, Option, Some, None, refl, sym, ap, ◌∙◌, subst, arith}
-use Rattle.std.specs.Prelude.{slice_get, fold, filter_map, nat_lt}
+use Rattle.std.specs.Prelude.{slice_get, fold, filter_map, flat_map, zip, nat_lt}
 use Rattle.std.specs.List.{All, cons_option}
 use Rattle.std.proofs.lemmas.Bool.{ltb-false}
 use Rattle.std.proofs.lemmas.List.{map-append, append-nil, append_assoc, length-append}
@@ -14,8 +14,10 @@ use Rattle.rpc_packet.specs.declared.response.Response.{Response}
 use Rattle.servant_core.specs.Answers.{OVERLOAD, unseen}
 use Rattle.script_session.specs.declared.session.Session.{Session}
 use Rattle.run_course.specs.Nodes.{Offer, Node, fresh, timed, accepted, waiting, frames_of, writes, notes, offers, answer_of, takes, works}
-use Rattle.run_course.specs.Legal.{IsOfferAt, IsAnswer, overloaded, taken}
-use Rattle.run_course.proofs.Lists.{get_append, get_last, get_snoc, of_cond, join_more}
+use Rattle.run_course.specs.Merges.{IsMerge, none}
+use Rattle.run_course.specs.Legal.{IsOfferAt, IsAnswer, overloaded, taken, overload_of, overload_frames, taken_of, taken_frames}
+use Rattle.run_course.proofs.Lists.{get_append, get_last, get_snoc, of_cond, join_more, flat_map_last, zip_longer, zip_last}
+use Rattle.run_course.proofs.Merges.{left_goes_on, right_goes_on}
 
 -- ---- what happened at a node stays
 
@@ -55,9 +57,10 @@ pub record IsKept (s : Session) (node : Node) : Type 0 where
   pub taken_within : length node.taken ≤ length (accepted node)
   pub room : (k : ℕ) (offer : Offer) → IsOfferAt node k offer → offer.has_room ≡ false → s.queue ≤ k
   pub answers : All (IsAnswer s node) node.answers
+  pub order : IsMerge (overload_frames s node) (taken_frames s node) node.answers
 
 pub fresh_kept : (s : Session) → IsKept s fresh
-fresh_kept s = record { taken_within = omega arith; room = λ k offer at. absurd (cc at); answers = All-nil (IsAnswer s fresh) }
+fresh_kept s = record { taken_within = omega arith; room = λ k offer at. absurd (cc at); answers = All-nil (IsAnswer s fresh); order = none }
 
 -- no more were accepted than were offered, so no more wait
 accepted_within : (xs : List Offer) → length (filter_map timed xs) ≤ length xs
@@ -99,6 +102,22 @@ noted_room s r moment has_room node kept full k offer at no_room = go (get_snoc 
     go (inl before) = kept.room k offer before no_room
     go (inr last) = subst (λ n. s.queue ≤ n) (sym last.0) (full (ap (λ (o : Offer). o.has_room) last.1 ∙ no_room))
 
+-- the frame of an offer, if it gets one, follows those before
+noted_order : (s : Session) (r : Request) (moment : ℕ) (has_room : Bool) (node : Node) → IsKept s node
+    → IsMerge (overload_frames s (notes r moment has_room node)) (taken_frames s (notes r moment has_room node)) (node.answers ++ overload_of (offer_of r moment has_room))
+noted_order s r moment has_room node kept =
+    subst (λ left. IsMerge left (taken_frames s (notes r moment has_room node)) (node.answers ++ overload_of offer)) (sym (flat_map_last overload_of node.offered offer))
+    (subst (λ right. IsMerge (overload_frames s node ++ overload_of offer) right (node.answers ++ overload_of offer)) (sym same_taken)
+    (left_goes_on (overload_of offer) kept.order))
+  where
+    offer : Offer
+    offer = offer_of r moment has_room
+
+    same_taken : taken_frames s (notes r moment has_room node) ≡ taken_frames s node
+    same_taken =
+        ap (λ xs. flat_map (taken_of s) (zip xs node.taken)) (filter_map-append timed node.offered (offer ∷ []))
+        ∙ ap (λ pairs. flat_map (taken_of s) pairs) (zip_longer (accepted node) (filter_map timed (offer ∷ [])) node.taken kept.taken_within)
+
 -- what holds where an offer finds room and where it does not holds of each offer
 pub offers_by : (s : Session) (moment : ℕ) (node : Node) (r : Request) (Q : Node → Type 0) → Q (notes r moment true node)
     → (s.queue ≤ length node.offered → Q (writes (unseen r OVERLOAD) (notes r moment false node))) → Q (offers s moment node r)
@@ -117,12 +136,14 @@ offers_kept s moment node r kept =
       taken_within = noted_within s r moment true node kept;
       room = noted_room s r moment true node kept (λ e. absurd (cc e));
       answers = All-weaker (IsAnswer s node) (IsAnswer s (notes r moment true node)) (answer_stays s node (notes r moment true node) (noted_grows r moment true node node.answers)) node.answers kept.answers;
+      order = subst (IsMerge (overload_frames s (notes r moment true node)) (taken_frames s (notes r moment true node))) (append-nil node.answers) (noted_order s r moment true node kept);
     })
     (λ full. record {
       taken_within = noted_within s r moment false node kept;
       room = noted_room s r moment false node kept (λ e. full);
       answers = answers_more s node refused (unseen r OVERLOAD) (noted_grows r moment false node refused.answers) kept.answers
           (λ frame frame_is. overloaded (length node.offered) (offer_of r moment false) (get_last node.offered (offer_of r moment false)) refl frame_is);
+      order = noted_order s r moment false node kept;
     })
   where
     refused : Node
@@ -192,6 +213,13 @@ pub works_out : (s : Session) (now : ℕ) (node : Node) → TakesOut s node (wor
 unfolding works
 works_out s now node = go (slice_get (accepted node) (length node.taken)) refl
   where
+    in_order : (next : Timed Request) → slice_get (accepted node) (length node.taken) ≡ Some next → IsKept s node
+        → IsMerge (overload_frames s node) (taken_frames s (takes s now node (Some next))) (node.answers ++ taken_of s (next, now))
+    in_order next e kept =
+        subst (λ right. IsMerge (overload_frames s node) right (node.answers ++ taken_of s (next, now)))
+        (sym (ap (λ pairs. flat_map (taken_of s) pairs) (zip_last (accepted node) node.taken next now e) ∙ flat_map_last (taken_of s) (zip (accepted node) node.taken) (next, now)))
+        (right_goes_on (taken_of s (next, now)) kept.order)
+
     took : (next : Timed Request) → slice_get (accepted node) (length node.taken) ≡ Some next → IsKept s node → IsKept s (takes s now node (Some next))
     took next e kept =
         record {
@@ -200,6 +228,7 @@ works_out s now node = go (slice_get (accepted node) (length node.taken)) refl
           answers = answers_more s node (takes s now node (Some next)) (answer_of s now (taken_at s.queue_timeout now next))
               (grows_by node (takes s now node (Some next)) [] (now ∷ []) (sym (append-nil node.offered)) refl) kept.answers
               (λ frame frame_is. taken (length node.taken) next now (record { next_is = e; now_is = get_last node.taken now }) frame_is);
+          order = in_order next e kept;
         }
 
     go : (o : Option (Timed Request)) → slice_get (accepted node) (length node.taken) ≡ o → TakesOut s node (takes s now node o)

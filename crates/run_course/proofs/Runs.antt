@@ -34,6 +34,7 @@ unused_read s =
       taken_within = kept.taken_within;
       room = kept.room;
       answers = kept.answers;
+      order = kept.order;
       delivered_within = omega arith;
       packets = refl;
     }

@@ -84,6 +84,7 @@ sends_read s row link read =
       taken_within = read.taken_within;
       room = read.room;
       answers = read.answers;
+      order = read.order;
       delivered_within = read.delivered_within;
       packets = read.packets;
     }
@@ -100,12 +101,13 @@ node_read s link to node read within offered kept written =
       taken_within = kept.taken_within;
       room = kept.room;
       answers = kept.answers;
+      order = kept.order;
       delivered_within = subst (λ bytes. link.delivered ≤ length bytes) (sym stream) (longer link.delivered (answers_stream link) (joined written.more) read.delivered_within);
       packets = read.packets ∙ sym (ap (λ bytes. packets_to link.delivered bytes) stream ∙ packets_stay link.delivered (answers_stream link) (joined written.more) read.delivered_within);
     }
 
 node_kept : (s : Session) (link : Link) → IsRead s link → IsKept s link.node
-node_kept s link read = record { taken_within = read.taken_within; room = read.room; answers = read.answers }
+node_kept s link read = record { taken_within = read.taken_within; room = read.room; answers = read.answers; order = read.order }
 
 pub serves_read : (s : Session) (moment : ℕ) (bytes : Option ℕ) (link : Link) → IsRead s link → IsRead s (serves s moment bytes link)
 unfolding serves
@@ -196,6 +198,7 @@ delivers_read s node bytes calls link read =
           taken_within = read.taken_within;
           room = read.room;
           answers = read.answers;
+          order = read.order;
           delivered_within = goes.within;
           packets = e ∙ (ap (λ packets. packets ++ fresh) read.packets ∙ sym (news_follow link.delivered to (answers_stream link) goes.further));
         }

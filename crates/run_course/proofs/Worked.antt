@@ -1,5 +1,6 @@
 -- Worked rows of docs/SCRIPTS.md, "Events", and docs/PROTOCOL.md, "Packets" and "Adapters' queues".
-use Rattle.std.proofs.Common.{◌≡◌, ◌+◌, ℕ, pos, true, false, List, [], ◌∷◌, Some, None, refl}
+use Rattle.std.proofs.Common.{◌≡◌, ◌+◌, ℕ, pos, true, false, List, [], ◌∷◌, ◌++◌, Some, None, refl}
+use Rattle.std.proofs.lemmas.List.{append-nil}
 use Rattle.std.specs.Prelude.{slice_get}
 use Rattle.script_session.specs.Sessions.{live_node, node_of}
 use Rattle.script_session.specs.declared.link_log.GotFate.TheVariants.{Used, Late}
@@ -13,8 +14,9 @@ use Rattle.rpc_packet.specs.declared.request.Request.{Request}
 use Rattle.rpc_packet.specs.declared.response.Response.{Response}
 use Rattle.servant_core.specs.Answers.{OVERLOAD, unseen}
 use Rattle.script_session.specs.declared.session.Session.{Session}
-use Rattle.run_course.specs.Nodes.{fresh, frames_of, offers}
+use Rattle.run_course.specs.Nodes.{Node, fresh, frames_of, offers, works}
 use Rattle.run_course.specs.Courses.{closed, Life, opened, Desk, unused, called, came, refused_call, after_all}
+use Rattle.run_course.specs.Legal.{overload_of, taken_of, overload_frames, taken_frames}
 
 -- two packets in a stream, and two bytes of a third
 pub two_packets : packets_of 100 (0 ∷ 0 ∷ 0 ∷ 5 ∷ 11 ∷ 0 ∷ 0 ∷ 0 ∷ 6 ∷ 1 ∷ 2 ∷ 0 ∷ 0 ∷ []) ≡ (0 ∷ 0 ∷ 0 ∷ 5 ∷ 11 ∷ []) ∷ (0 ∷ 0 ∷ 0 ∷ 6 ∷ 1 ∷ 2 ∷ []) ∷ []
@@ -59,3 +61,10 @@ pub a_full_queue : (s : Session) (first second : Request) → s.queue ≡ 1 → 
     }
 unfolding offers
 a_full_queue s first second e = rw e refl
+
+-- the first is taken then, and its answer follows
+pub a_late_answer : (s : Session) (first second : Request) → s.queue ≡ 1
+    → (let node : Node = works s 0 (offers s 0 (offers s 0 fresh first) second) in node.answers ≡ overload_frames s node ++ taken_frames s node)
+unfolding offers works
+a_late_answer s first second e =
+    rw (e, append-nil (overload_of (record { request = second; moment = 0; has_room = false })), append-nil (taken_of s (record { item = first; entered = 0 }, 0))) refl

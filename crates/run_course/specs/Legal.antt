@@ -1,6 +1,6 @@
 -- What holds after every list of events (docs/SCRIPTS.md, "Events" and "Reports"). Calls go by their places from 0, packets of a
 -- node by their numbers from 1.
-use Rattle.std.specs.Prelude.{◌≡◌, All, ◌≤◌, ℕ, suc, true, ◌==◌, if◌then◌else◌, Option, Some, None, List, [], length, take, map, filter_map, slice_get, Bool, false, ◌&&◌, nat_le, count_by, ◌∷◌}
+use Rattle.std.specs.Prelude.{◌≡◌, All, ◌≤◌, ℕ, suc, true, ◌==◌, if◌then◌else◌, Option, Some, None, List, [], length, take, map, filter_map, flat_map, zip, slice_get, Bool, false, ◌&&◌, nat_le, count_by, ◌∷◌}
 use Rattle.script_session.specs.declared.link_log.GotFate.TheVariants.{Used}
 use Rattle.script_session.specs.declared.link_log.GotRow.{GotRow}
 use Rattle.script_session.specs.declared.link_log.SentRow.{SentRow}
@@ -16,6 +16,7 @@ use Rattle.adapter_queue.specs.declared.timed.Timed.{Timed}
 use Rattle.rpc_packet.specs.Packets.{read_request, read_response}
 use Rattle.rpc_packet.specs.declared.request.Request.{Request}
 use Rattle.rpc_packet.specs.declared.response.Response.{Response}
+use Rattle.run_course.specs.Merges.{IsMerge}
 use Rattle.run_course.specs.Nodes.{Offer, Node, accepted, frames_of, answer_of}
 use Rattle.servant_core.specs.Answers.{OVERLOAD, unseen}
 use Rattle.script_session.specs.declared.session.Session.{Session}
@@ -47,15 +48,33 @@ pub data IsAnswer (s : Session) (node : Node) (frame : List ℕ) : Type 0 where
       (k : ℕ) (next : Timed Request) (now : ℕ) → IsTakenAt node k next now
       → frames_of (answer_of s now (taken_at s.queue_timeout now next)) ≡ frame ∷ [] → IsAnswer s node frame
 
+-- the frame to a request that found no room; a one-way one gets none
+abbrev pub overload_of : Offer → List (List ℕ)
+overload_of offer = if offer.has_room then [] else frames_of (unseen offer.request OVERLOAD)
+
+-- those to all of these, in the order in which they were offered
+abbrev pub overload_frames : Session → Node → List (List ℕ)
+overload_frames s node = flat_map overload_of node.offered
+
+-- the frame to a request that was taken at a moment; a one-way one gets none, nor does one that the servant leaves unanswered
+abbrev pub taken_of : Session → Timed Request × ℕ → List (List ℕ)
+taken_of s pair = frames_of (answer_of s pair.1 (taken_at s.queue_timeout pair.1 pair.0))
+
+-- those to all that were taken, in the order in which they were taken
+abbrev pub taken_frames : Session → Node → List (List ℕ)
+taken_frames s node = flat_map (taken_of s) (zip (accepted node) node.taken)
+
 -- on a link: the requests that were offered to a node are those that the bytes it has read say, each of its frames answers one, none
--- is refused for want of room while fewer came before it than the queue holds, and the packets that the caller got are those that
--- the bytes it has read say
+-- is answered twice, those that found no room are answered in their order and so are those that were taken, none is refused for want
+-- of room while fewer came before it than the queue holds, and the packets that the caller got are those that the bytes it has read
+-- say
 pub record IsRead (s : Session) (link : Link) : Type 0 where
   pub served_within : link.served ≤ length (requests_stream link)
   pub requests : map (λ (offer : Offer). offer.request) link.node.offered ≡ filter_map read_request (packets_to link.served (requests_stream link))
   pub taken_within : length link.node.taken ≤ length (accepted link.node)
   pub room : (k : ℕ) (offer : Offer) → IsOfferAt link.node k offer → offer.has_room ≡ false → s.queue ≤ k
   pub answers : All (IsAnswer s link.node) link.node.answers
+  pub order : IsMerge (overload_frames s link.node) (taken_frames s link.node) link.node.answers
   pub delivered_within : link.delivered ≤ length (answers_stream link)
   pub packets : map (λ (row : GotRow). row.packet) link.got ≡ packets_to link.delivered (answers_stream link)
 

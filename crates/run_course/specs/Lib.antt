@@ -1,3 +1,4 @@
+pub mod Merges
 pub mod Nodes
 pub mod Courses
 pub mod Planned

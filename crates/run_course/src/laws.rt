@@ -19,7 +19,8 @@ pub fn legal_course()
     // What was sent to a node are the requests of the calls that were opened there, each once, in order.
     ensures sends { (s : Session) (events : List Event) (node : ℕ) (link : Link) → IsLinkAt (ended s events) node link
         → link.sent ≡ filter_map (sent_of s node) (ended s events).calls }
-    // On each link what was read is what the bytes say, and each frame that the node wrote answers a request that was offered to it.
+    // On each link what was read is what the bytes say, and the node answered requests that were offered to it, none twice: those that
+    // found no room in their order, and those that it took in theirs.
     ensures reads { (s : Session) (events : List Event) (node : ℕ) (link : Link) → IsLinkAt (ended s events) node link → IsRead s link }
     // No event moves the moment yet.
     ensures moments { (s : Session) (events : List Event) → IsStill (ended s events) }
