@@ -1,0 +1,12 @@
+pub mod Lists
+pub mod Channels
+pub mod Decoded
+pub mod Functions
+pub mod Servants
+pub mod Nodes
+pub mod OneLines
+pub mod Links
+pub mod Desks
+pub mod Plans
+pub mod Events
+pub mod Reports

@@ -1,0 +1,22 @@
+//! The engine of scripts: `run_plan` runs a session event by event (docs/SCRIPTS.md, "Events") and gives its report, which is the
+//! one that `run_course` defines. Each part is tied to its part of what has happened by a relation of `specs/Tracks.antt`.
+#![tactic(auto)]
+
+mod call_note;
+mod caller;
+mod channel;
+mod claims;
+mod fate;
+mod func_members;
+mod link_ends;
+mod node;
+mod one_line;
+mod one_node;
+mod plan;
+mod reporting;
+mod run;
+mod service;
+mod serving;
+mod session_servant;
+
+pub use run::run_plan;
