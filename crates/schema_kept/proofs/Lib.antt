@@ -1,3 +1,4 @@
 pub mod Kept
 pub mod Finding
 pub mod Loaded
+pub mod Interfaces

@@ -34,6 +34,19 @@ SomeOutcome = (d : Declared) (t : Ty) (text : List ℕ) → IsSchema d → ((v :
 abbrev pub NotBoth : Type 0
 NotBoth = (d : Declared) (t : Ty) (text rest : List ℕ) (v : Value) (at : ℕ) (why : ValueWhy) → Spells d t v text rest → FaultOf d t text at why → ⊥
 
+-- a text begins with a value or with none
+abbrev pub ValueOrNone : Declared → Type 0
+ValueOrNone d = (t : Ty) (text : List ℕ) → ((v : Value) × (rest : List ℕ) × Spells d t v text rest) ⊎ ((v : Value) (rest : List ℕ) → ¬ (Spells d t v text rest))
+
+-- so it is over a schema
+pub value_or_none : (d : Declared) → SomeOutcome → NotBoth → IsSchema d → ValueOrNone d
+value_or_none d some not_both schema t text = by_outcome (some d t text schema)
+  where
+    by_outcome : ((v : Value) × (rest : List ℕ) × Spells d t v text rest) ⊎ ((at : ℕ) × (why : ValueWhy) × FaultOf d t text at why)
+        → ((v : Value) × (rest : List ℕ) × Spells d t v text rest) ⊎ ((v : Value) (rest : List ℕ) → ¬ (Spells d t v text rest))
+    by_outcome (inl found) = inl found
+    by_outcome (inr (at, why, fault)) = inr (λ v rest spells. not_both d t text rest v at why spells fault)
+
 -- ---- one of two
 
 same_bytes : (a b : List ℕ) → (a ≡ b) ⊎ ¬ (a ≡ b)
@@ -99,9 +112,9 @@ module _ (func : FuncDesc) where
       all (inl ret) (inl one) (inl two) = inl (one.0, two.0, (ret, one.1, two.1))
 
 module _ (one : OneValue) (d : Declared) where
-  module _ (some : SomeOutcome) (not_both : NotBoth) (schema : IsSchema d) where
+  module _ (value_or : ValueOrNone d) where
     text_or_not : (t : Ty) (bytes : List ℕ) → ((v : Value) × text.IsWhole d t v bytes) ⊎ ((v : Value) → ¬ (text.IsWhole d t v bytes))
-    text_or_not t bytes = by_outcome (some d t bytes schema)
+    text_or_not t bytes = by_outcome (value_or t bytes)
       where
         by_gap : (v : Value) (rest gap : List ℕ) → Spells d t v bytes rest → past_gap rest ≡ gap → ((v : Value) × text.IsWhole d t v bytes) ⊎ ((v : Value) → ¬ (text.IsWhole d t v bytes))
         by_gap v rest [] spells is = inl (v, (rest, spells, is))
@@ -110,10 +123,10 @@ module _ (one : OneValue) (d : Declared) where
             nothing : b ∷ gap ≡ [] → ⊥
             nothing e = cc
 
-        by_outcome : ((v : Value) × (rest : List ℕ) × Spells d t v bytes rest) ⊎ ((at : ℕ) × (why : ValueWhy) × FaultOf d t bytes at why)
+        by_outcome : ((v : Value) × (rest : List ℕ) × Spells d t v bytes rest) ⊎ ((v : Value) (rest : List ℕ) → ¬ (Spells d t v bytes rest))
             → ((v : Value) × text.IsWhole d t v bytes) ⊎ ((v : Value) → ¬ (text.IsWhole d t v bytes))
         by_outcome (inl (v, rest, spells)) = by_gap v rest (past_gap rest) spells refl
-        by_outcome (inr (at, why, fault)) = inr (λ v h. not_both d t bytes h.0 v at why h.1 fault)
+        by_outcome (inr none) = inr (λ v h. none v h.0 h.1)
 
     returned_or_not : (bytes : List ℕ) (o : Option Ty) → ((v : Value) × Returns o (λ t. text.IsWhole d t v bytes)) ⊎ ((v : Value) → ¬ (Returns o (λ t. text.IsWhole d t v bytes)))
     returned_or_not bytes None = inr (λ v h. h)

@@ -1,8 +1,8 @@
 -- The rules and calls of a script are judged.
-use Rattle.std.proofs.Common.{◌≡◌, ◌≢◌, ◌≤◌, ◌-◌, ◌&&◌, ℕ, ℤ, pos, Bool, true, false, cond, List, [], ◌∷◌, ◌++◌, length, drop, length-drop, Option, Some, None, option_map, nat_lt, nat_abs, nat_le, inl, reverse, leb-true, leb-false, codes, refl, ap, subst, arith}
+use Rattle.std.proofs.Common.{◌≡◌, ◌≢◌, ◌≤◌, ◌-◌, ◌&&◌, ℕ, ℤ, pos, Bool, true, false, cond, List, [], ◌∷◌, ◌++◌, length, take, drop, length-drop, length-append, Option, Some, None, option_map, nat_lt, nat_abs, nat_le, inl, reverse, leb-true, leb-false, codes, refl, ap, subst, arith}
 use Rattle.std.specs.List.{All, prefix_len}
 use Rattle.std.proofs.lemmas.Bool.{and_parts}
-use Rattle.std.proofs.lemmas.List.{length-take-le}
+use Rattle.std.proofs.lemmas.List.{length-take-le, take-append-drop}
 use Rattle.std.proofs.lemmas.List.Elements.{All-append, All-cons, All-nil}
 use Rattle.facts.specs.OptionSteps.{◌>>=◌}
 use Rattle.tars_model.specs.Ranges.{is_int}
@@ -33,11 +33,25 @@ word_left (c ∷ cs) word after is =
     twice : (n : ℕ) → length (after_spaces (drop n (c ∷ cs))) ≤ length (c ∷ cs)
     twice n = omega (arith, less (prefix_len is_space (drop n (c ∷ cs))) (drop n (c ∷ cs)), less n (c ∷ cs))
 
-cut_left : (words : List (List ℕ)) (content rest : List ℕ) → IsCut content words rest → length rest ≤ length content
+-- and so is each word of it
+word_less : (content word after : List ℕ) → next_word content ≡ Some (word, after) → length word ≤ length content
+unfolding next_word
+word_less [] word after is = absurd cc
+word_less (c ∷ cs) word after is =
+    subst (λ (x : List ℕ × List ℕ). length x.0 ≤ length (c ∷ cs)) (some_is is) (shorter (prefix_len is_word_byte (c ∷ cs)))
+  where
+    shorter : (n : ℕ) → length (take n (c ∷ cs)) ≤ length (c ∷ cs)
+    shorter n = omega (arith, ap length (take-append-drop n (c ∷ cs)), length-append (take n (c ∷ cs)) (drop n (c ∷ cs)))
+
+pub cut_left : (words : List (List ℕ)) (content rest : List ℕ) → IsCut content words rest → length rest ≤ length content
 cut_left [] content rest is = omega (arith, ap length is)
 cut_left (word ∷ words) content rest (after, next, more) = omega (arith, cut_left words after rest more, word_left content word after next)
 
-content_less : (line : List ℕ) → length (content_of line) ≤ length line
+third_less : (content first second third rest : List ℕ) → IsCut content (first ∷ second ∷ third ∷ []) rest → length third ≤ length content
+third_less content first second third rest (a, one, (b, two, (c, three, is))) =
+    omega (arith, word_left content first a one, word_left a second b two, word_less b third c three)
+
+pub content_less : (line : List ℕ) → length (content_of line) ≤ length line
 unfolding content_of
 content_less line =
     omega (arith, less (prefix_len is_space (before_spaces line)) (before_spaces line), length-take-le (length line - prefix_len is_space (reverse line)) line)
@@ -103,17 +117,19 @@ short_line earlier bytes none = by_test (nat_le (length bytes) MAX_LINE) refl
     by_test true test = leb-true (length bytes) MAX_LINE test
     by_test false test = absurd (none TooMany (inl (leb-false (length bytes) MAX_LINE test)))
 
-lines_judged : (earlier : List Line) (texts : List TextLine) (lines : List Line) → AreRead earlier texts lines → All Judged (said_by rules lines)
-lines_judged earlier [] [] read = All-nil Judged
-lines_judged earlier (t ∷ texts) [] read = absurd read
-lines_judged earlier [] (line ∷ lines) read = absurd read
-lines_judged earlier (t ∷ texts) (line ∷ lines) (at, says, none, more) =
-    All-append Judged (rules line.at line.said) (said_by rules lines)
-    (line_judged line.at t.bytes line.said (short_line earlier t.bytes none) says) (lines_judged (earlier ++ line ∷ []) texts lines more)
+-- what holds of all that a line says holds of all that lines say
+module _ {X : Type 0} (what : ℕ → Said → List X) (P : X → Type 0) (line_holds : (at : ℕ) (bytes : List ℕ) (said : Said) → length bytes ≤ MAX_LINE → Says bytes said → All P (what at said)) where
+  pub each_said : (earlier : List Line) (texts : List TextLine) (lines : List Line) → AreRead earlier texts lines → All P (said_by what lines)
+  each_said earlier [] [] read = All-nil P
+  each_said earlier (t ∷ texts) [] read = absurd read
+  each_said earlier [] (line ∷ lines) read = absurd read
+  each_said earlier (t ∷ texts) (line ∷ lines) (at, says, none, more) =
+      All-append P (what line.at line.said) (said_by what lines)
+      (line_holds line.at t.bytes line.said (short_line earlier t.bytes none) says) (each_said (earlier ++ line ∷ []) texts lines more)
 
 pub script_judged : (text : List ℕ) (s : Script) → IsScript text s → All Judged s.rules
 script_judged text s is =
-    subst (λ (ls : List RuleLine). All Judged ls) is.say.rules (lines_judged [] (text_lines text) is.lines is.read)
+    subst (λ (ls : List RuleLine). All Judged ls) is.say.rules (each_said rules Judged line_judged [] (text_lines text) is.lines is.read)
 
 -- ---- events
 
@@ -132,7 +148,11 @@ after (Some a) f e each is = subst IsJudgedEvent (some_is is) (each a)
 event_judged : (content : List ℕ) (form : form.EventForm) → SaysEvent content form → length content ≤ MAX_LINE → (e : says.Event) → event_meant form ≡ Some e → IsJudgedEvent e
 unfolding event_meant
 event_judged content (form.call caller func args) h short e is =
-    after (within CALLER CALLER caller) (λ _. says.call func args) e (λ _. omega (arith, cut_left (codes "call" ∷ caller ∷ func ∷ []) content args h.0, short)) is
+    after (within CALLER CALLER caller) (λ _. says.call func args) e
+    (λ _. (
+      omega (arith, third_less content (codes "call") caller func args h.0, short),
+      omega (arith, cut_left (codes "call" ∷ caller ∷ func ∷ []) content args h.0, short),
+    )) is
 event_judged content (form.serve node count) h short e is = after (read_meant node count) says.serve e (λ _. tt) is
 event_judged content (form.work node) h short e is = after (within NODE NODE node) (λ _. says.work) e (λ _. tt) is
 event_judged content (form.deliver node count) h short e is = after (read_meant node count) says.deliver e (λ _. tt) is
@@ -143,13 +163,5 @@ line_event at bytes (event form) short h = may_events at (event_meant form) (eve
 line_event at bytes (header h) short says = All-nil JudgedEvent
 line_event at bytes skipped short says = All-nil JudgedEvent
 
-line_events : (earlier : List Line) (texts : List TextLine) (lines : List Line) → AreRead earlier texts lines → All JudgedEvent (said_by events lines)
-line_events earlier [] [] read = All-nil JudgedEvent
-line_events earlier (t ∷ texts) [] read = absurd read
-line_events earlier [] (line ∷ lines) read = absurd read
-line_events earlier (t ∷ texts) (line ∷ lines) (at, says, none, more) =
-    All-append JudgedEvent (events line.at line.said) (said_by events lines)
-    (line_event line.at t.bytes line.said (short_line earlier t.bytes none) says) (line_events (earlier ++ line ∷ []) texts lines more)
-
 pub events_judged : (text : List ℕ) (s : Script) → IsScript text s → All JudgedEvent s.events
-events_judged text s is = subst (λ (ls : List EventLine). All JudgedEvent ls) is.say.events (line_events [] (text_lines text) is.lines is.read)
+events_judged text s is = subst (λ (ls : List EventLine). All JudgedEvent ls) is.say.events (each_said events JudgedEvent line_event [] (text_lines text) is.lines is.read)

@@ -1,4 +1,4 @@
--- The functions of an interface, by their names (docs/SCRIPTS.md, "General scripts").
+-- The functions of an interface, by their names (docs/SCRIPTS.md, "Scripts").
 use Rattle.std.specs.Prelude.{◌≡◌, ◌≤◌, ℕ, Some, List, length, map, slice_get}
 use Rattle.tars_model.specs.Members.{MAX_PARAMS}
 use Rattle.tars_model.specs.Names.{AllDiffer}

@@ -1,4 +1,4 @@
--- What the words of a rule mean over a function, or their fault (docs/SCRIPTS.md, "General scripts").
+-- What the words of a rule mean over a function, or their fault (docs/SCRIPTS.md, "Scripts").
 use Rattle.std.specs.Prelude.{◌≡◌, ◌≢◌, ◌≤◌, ℕ, pos, Some, List, length, slice_get}
 use Rattle.script_lines.specs.Meanings as says
 use Rattle.script_lines.specs.TextLimits.{MAX_LINE}
@@ -54,7 +54,7 @@ IsJudged (says.value bytes) = length bytes ≤ MAX_LINE
 IsJudged (says.code number) = number ≢ pos 0
 IsJudged _ = Unit {0}
 
--- the same of an event: what a call says of its arguments is no longer than a line
+-- the same of an event: the name in a call and what it says of its arguments are no longer than a line
 abbrev pub IsJudgedEvent : says.Event → Type 0
-IsJudgedEvent (says.call func args) = length args ≤ MAX_LINE
+IsJudgedEvent (says.call func args) = (length func ≤ MAX_LINE) × (length args ≤ MAX_LINE)
 IsJudgedEvent _ = Unit {0}

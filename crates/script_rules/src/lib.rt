@@ -1,4 +1,4 @@
-//! What the rules and calls of a general script mean over an interface (docs/SCRIPTS.md, "General scripts"): `function_of` finds a
+//! What the rules and calls of a script mean over an interface (docs/SCRIPTS.md, "Scripts"): `function_of` finds a
 //! function by its name, `read_rule` gives the rule of a function that the words of a script mean, or their fault, and `read_call`
 //! the arguments of a call.
 //!

@@ -2,7 +2,7 @@ ghost use Rattle.script_rules.specs.Outcomes.{OnMemory};
 
 use value_text::ValueFault;
 
-/// Why the words of a rule mean none (docs/SCRIPTS.md, "Faults of general scripts").
+/// Why the words of a rule mean none (docs/SCRIPTS.md, "Faults of scripts").
 #[derive(Clone, Copy)]
 pub enum RuleFault {
     /// No parameter that is not `out` has the name and a type that fits: fault 6.

@@ -10,8 +10,10 @@ ghost use Rattle.script_rules.specs.declared.rule_fault.RuleFault.{RuleFault as 
 ghost use Rattle.script_rules.specs.declared.rule_fault.RuleFault.TheVariants.{BadValue as is_bad};
 ghost use Rattle.servant_core.specs.Rules.{Returns, IsRuleOf};
 ghost use Rattle.servant_core.specs.declared.rules.Rule.{Rule as Made};
+ghost use Rattle.servant_core.specs.declared.rules.Rule.TheVariants.{Value as is_value};
 ghost use Rattle.tars_model.specs.Values.{fits};
 ghost use Rattle.tars_model.specs.declared.value.Value.{Value as Said};
+ghost use Rattle.value_text.specs.Printed.{has_bytes};
 
 use crate::RuleFault;
 use crate::params::{added, echoed};
@@ -31,6 +33,7 @@ fn returned(
     requires { length text.now ≤ MAX_LINE }
     ensures says { IfOk result (λ value. SaysReturned schema.now func.now text.now value) }
     ensures fits { IfOk result (λ value. Returns func.now.ret (λ t. fits schema.now t value ≡ true)) }
+    ensures bytes { IfOk result (λ value. has_bytes value ≡ true) }
     ensures only { (value : Said) → SaysReturned schema.now func.now text.now value → Gives result value }
     ensures bad { IfErr result (λ fault. OnFault fault (λ why. why ≡ is_bad)) }
 {
@@ -53,6 +56,8 @@ pub fn read_rule(
     // The words mean what is returned, and it fits the function.
     ensures means { IfOk result (λ rule. MeansRule schema.now func.now (rule_of words.now) rule) }
     ensures fits { IfOk result (λ rule. IsRuleOf schema.now func.now rule) }
+    // The texts of a value are bytes.
+    ensures bytes { IfOk result (λ rule. (value : Said) → rule ≡ is_value value → has_bytes value ≡ true) }
     // Whatever words mean is returned, unless memory runs out.
     ensures only { (rule : Made) → MeansRule schema.now func.now (rule_of words.now) rule → Gives result rule }
     // A fault is that of the words, and it is returned, unless memory runs out.

@@ -1,11 +1,14 @@
 -- How the values that were read and the text that is left lead to all arguments.
 use Rattle.std.proofs.Common.{◌≡◌, ◌≤◌, ℕ, true, List, [], ◌∷◌, ◌++◌, length, refl, sym, ap, subst, ◌∙◌, append_assoc, append-nil, arith}
+use Rattle.std.specs.List.{list_all}
 use Rattle.std.proofs.lemmas.Bool.{and_from}
+use Rattle.std.proofs.lemmas.List.Folds.{list_all-append}
 use Rattle.tars_model.specs.Declarations.{Declared}
 use Rattle.tars_model.specs.Values.{fits, fit_members}
 use Rattle.tars_model.specs.declared.member.Member.{Member}
 use Rattle.tars_model.specs.declared.ty.Ty.{Ty}
 use Rattle.tars_model.specs.declared.value.Value.{Value}
+use Rattle.value_text.specs.Printed.{has_bytes}
 use Rattle.value_text.specs.Spelling.{Spells}
 use Rattle.script_values.specs.Args.{past_spaces, IsApart, SaysArgs}
 
@@ -60,3 +63,7 @@ module _ (d : Declared) (members left : List Member) (text rest : List ℕ) (val
   fits_all leads none =
       subst (λ (all : List Value). fit_members d members all ≡ true) (append-nil values)
       (leads.fit [] (subst (λ (ms : List Member). fit_members d ms [] ≡ true) (sym none) refl))
+
+-- the texts of the next value are bytes too
+pub bytes_next : (values : List Value) (v : Value) → list_all has_bytes values ≡ true → has_bytes v ≡ true → list_all has_bytes (values ++ v ∷ []) ≡ true
+bytes_next values v before this = list_all-append has_bytes values (v ∷ []) ∙ and_from _ _ before (and_from _ _ this refl)

@@ -1,4 +1,4 @@
--- The arguments of a call in a script (docs/SCRIPTS.md, "General scripts").
+-- The arguments of a call in a script (docs/SCRIPTS.md, "Scripts").
 use Rattle.std.specs.Prelude.{◌≡◌, ℕ, ◌==◌, if◌then◌else◌, List, [], ◌∷◌}
 use Rattle.tars_model.specs.Declarations.{Declared}
 use Rattle.tars_model.specs.declared.member.Member.{Member}

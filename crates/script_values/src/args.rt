@@ -4,6 +4,8 @@ ghost use Rattle.std.specs.Prelude.{◌≡◌, ◌<◌, ◌≤◌, ◌^◌, true
 ghost use Rattle.tars_model.specs.Values.{fits, fit_members};
 ghost use Rattle.tars_model.specs.declared.value.Value.{Value as Made};
 ghost use Rattle.value_text.specs.Spelling.{Spells};
+ghost use Rattle.std.specs.List.{list_all};
+ghost use Rattle.value_text.specs.Printed.{has_bytes};
 ghost use Rattle.script_values.specs.Args.{past_spaces, IsApart, SaysArgs};
 ghost use Rattle.script_values.specs.Outcomes.{Gives, GivesNext};
 
@@ -42,6 +44,7 @@ fn next_arg<'a>(
     ensures spells { IfOk result (λ x. Spells schema.now ty.now x.0 (past_spaces text.now) x.1.now) }
     ensures apart { IfOk result (λ x. IsApart x.1.now) }
     ensures fits { IfOk result (λ x. fits schema.now ty.now x.0 ≡ true) }
+    ensures bytes { IfOk result (λ x. has_bytes x.0 ≡ true) }
     ensures shorter { IfOk result (λ x. length x.1.now ≤ length text.now) }
     ensures only { (v : Made) (rest : Listed ℕ) → Spells schema.now ty.now v (past_spaces text.now) rest → IsApart rest
         → GivesNext (λ r. r.now) result v rest }
@@ -69,6 +72,7 @@ pub fn read_args(
     // The text says what is read.
     ensures says { IfOk result (λ values. SaysArgs schema.now members.now values text.now) }
     ensures fits { IfOk result (λ values. fit_members schema.now members.now values ≡ true) }
+    ensures bytes { IfOk result (λ values. list_all has_bytes values ≡ true) }
     // Whatever a text says is read, unless memory runs out: so it is bad only where it says no arguments.
     ensures only { (values : Listed Made) → SaysArgs schema.now members.now values text.now → Gives result values }
 {

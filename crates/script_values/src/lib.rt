@@ -1,4 +1,4 @@
-//! The values that scripts say (docs/SCRIPTS.md, "General scripts"): the arguments of a call, as one text, are read as a value
+//! The values that scripts say (docs/SCRIPTS.md, "Scripts"): the arguments of a call, as one text, are read as a value
 //! for each member.
 //!
 //! Read `specs/Args.antt` first, which says what texts say arguments.

@@ -1,0 +1,9 @@
+pub mod Sides
+pub mod LineFaults
+pub mod Sessions
+pub mod TextFaults
+pub mod SidesLoading
+pub mod Loading
+pub mod LoadAnswers
+pub mod LoadSteps
+pub mod LineSteps
