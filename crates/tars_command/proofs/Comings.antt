@@ -4,17 +4,17 @@ use Rattle.std.specs.Prelude.{Result, Ok, Err, IsErr, IsErrAnd}
 use Rattle.std.specs.declared.vec.Vec.{Vec}
 use Rattle.canonical_text.specs.Canonical.{canonical}
 use Rattle.command_words.specs.Asked.{Asked, check, plan, encode, decode, compat}
-use Rattle.plan_course.specs.Planned.{planned}
-use Rattle.report_lines.specs.ReportText.{report_text_of}
+use Rattle.run_course.specs.Planned.{planned}
+use Rattle.run_report.specs.ReportText.{report_text_of}
 use Rattle.schema_files.specs.SchemaLoading as schema
 use Rattle.schema_files.specs.SchemaLoading.{SchemaAnswer, LoadsSchema}
 use Rattle.schema_files.specs.declared.load_fault.LoadFault.{LoadFault}
 use Rattle.schema_files.specs.declared.load_fault.LoadFault.TheVariants as faults
 use Rattle.schema_files.proofs.CallerLemmas.{ForSchema, always, any_held, one_schema}
-use Rattle.session_load.specs.Loading as load
-use Rattle.session_load.specs.Loading.{LoadAnswer, Loads}
-use Rattle.session_load.proofs.CallerLemmas.{ForScript, one_answer}
-use Rattle.session_model.specs.declared.session.Session.{Session}
+use Rattle.script_load.specs.Loading as load
+use Rattle.script_load.specs.Loading.{LoadAnswer, Loads}
+use Rattle.script_load.proofs.CallerLemmas.{ForScript, one_answer}
+use Rattle.script_session.specs.declared.session.Session.{Session}
 use Rattle.struct_files.specs.Answers as text
 use Rattle.struct_files.specs.Answers.{TextAnswer, IsAnswered}
 use Rattle.struct_files.specs.Comparing.{ComparesFiles}

@@ -2,12 +2,12 @@
 use Rattle.std.specs.Prelude.{ℕ, List}
 use Rattle.canonical_text.specs.Canonical.{canonical}
 use Rattle.command_words.specs.Words.{AskForCheck, AskForPlan, AskForEncode, AskForDecode, AskForCompat, AreNoForm}
-use Rattle.plan_course.specs.Planned.{planned}
-use Rattle.report_lines.specs.ReportText.{report_text_of}
+use Rattle.run_course.specs.Planned.{planned}
+use Rattle.run_report.specs.ReportText.{report_text_of}
 use Rattle.schema_files.specs.SchemaLoading as schema
 use Rattle.schema_files.specs.SchemaLoading.{SchemaAnswer, LoadsSchema}
-use Rattle.session_load.specs.Loading as load
-use Rattle.session_load.specs.Loading.{LoadAnswer, Loads}
+use Rattle.script_load.specs.Loading as load
+use Rattle.script_load.specs.Loading.{LoadAnswer, Loads}
 use Rattle.struct_files.specs.Answers as text
 use Rattle.struct_files.specs.Answers.{TextAnswer}
 use Rattle.struct_files.specs.Comparing.{ComparesFiles}

@@ -5,7 +5,7 @@ use Rattle.command_words.specs.Asked.{Asked, check, plan, encode, decode, compat
 use Rattle.schema_files.specs.SchemaLoading.{SchemaAnswer, LoadsSchema}
 use Rattle.schema_files.specs.declared.load_fault.LoadFault.{LoadFault}
 use Rattle.schema_files.specs.declared.load_fault.LoadFault.TheVariants as faults
-use Rattle.session_load.specs.Loading.{LoadAnswer, Loads}
+use Rattle.script_load.specs.Loading.{LoadAnswer, Loads}
 use Rattle.struct_files.specs.Answers.{TextAnswer}
 use Rattle.struct_files.specs.Comparing.{ComparesFiles}
 use Rattle.struct_files.specs.Decoding.{DecodesFile}

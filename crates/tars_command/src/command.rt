@@ -4,8 +4,8 @@ ghost use Rattle.std.specs.Prelude.{◌≡◌, ◌≢◌, ◌⊎◌, ℕ, List, 
 ghost use Rattle.std.specs.List.{list_all};
 ghost use Rattle.command_words.specs.Asked.{check, plan, asked_by};
 ghost use Rattle.command_words.specs.Words.{AreNoForm, is_word};
-ghost use Rattle.plan_course.specs.Planned.{planned};
-ghost use Rattle.report_lines.specs.ReportText.{report_text_of};
+ghost use Rattle.run_course.specs.Planned.{planned};
+ghost use Rattle.run_report.specs.ReportText.{report_text_of};
 ghost use Rattle.tars_base.specs.Causes.{HasCauseOf, Rose};
 ghost use Rattle.tars_base.specs.Contents.{Held, IsHeld};
 ghost use Rattle.tars_command.specs.Runs.{WritesDue, EndsAsDue, KeepsQuiet};

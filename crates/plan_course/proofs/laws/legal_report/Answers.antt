@@ -1,5 +1,0 @@
-use Rattle.plan_course.proofs.Reports.{legal_law}
-use Rattle.plan_course.proofs.laws.legal_report.Goals as goal
-
-pub returns : goal.returns
-returns c = legal_law

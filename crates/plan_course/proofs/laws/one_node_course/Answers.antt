@@ -1,5 +1,0 @@
-use Rattle.plan_course.proofs.Openings.{as_scripted}
-use Rattle.plan_course.proofs.laws.one_node_course.Goals as goal
-
-pub returns : goal.returns
-returns c = record { refusals = as_scripted }

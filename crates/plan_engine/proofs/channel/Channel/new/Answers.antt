@@ -1,6 +1,0 @@
-use Rattle.plan_engine.proofs.Channels.{new_reads}
-use Rattle.plan_engine.proofs.channel.Channel.new.Goals as goal
-use Rattle.std.proofs.Common.{refl}
-
-pub returns : goal.returns
-returns c = new_reads _ c.new.ensures.items c.in_ok-new.ensures.made refl

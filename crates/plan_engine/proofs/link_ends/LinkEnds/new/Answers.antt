@@ -1,5 +1,0 @@
-use Rattle.plan_engine.proofs.Links.{nothing_passed}
-use Rattle.plan_engine.proofs.link_ends.LinkEnds.new.Goals as goal
-
-pub returns : goal.returns
-returns c = nothing_passed _ c.in_ok-new.ensures c.in_ok-new-2.ensures c.new-3.ensures.items c.new-4.ensures.items c.new-5.ensures.items

@@ -1,8 +1,0 @@
-use Rattle.std.proofs.Common.{◌≡◌, ◌++◌, take, drop, map}
-use Rattle.plan_engine.specs.OneLines.{closed_call}
-use Rattle.plan_engine.proofs.one_line.close_all.Given as goal
-
--- the calls so far are closed
-abbrev pub invariant-loop-call : goal.invariant-loop-call
-invariant-loop-call l =
-    l.call-items ≡ map closed_call (take l.call-index l.initial.call-items) ++ drop l.call-index l.initial.call-items

@@ -1,4 +1,0 @@
-pub mod Claims
-pub mod OneLines
-pub mod Notes
-pub mod Tracks

@@ -1,4 +1,0 @@
-pub mod Reading
-pub mod Functions
-pub mod TwoInts
-pub mod RuleLaws

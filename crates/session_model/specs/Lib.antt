@@ -1,4 +1,0 @@
-pub mod Sessions
-pub mod Replies
-pub mod ReportWords
-pub mod Judged
