@@ -108,9 +108,11 @@ mkdir folder
 case_of 'no script' 3 '' 'read fault' plan none.plan
 case_of 'a folder as script' 3 '' 'read fault' plan folder
 : >empty.plan
-case_of 'an empty script' 1 'refused empty.plan script 1 0' '' plan empty.plan
+case_of 'an empty script' 1 'refused empty.plan script 3 0' '' plan empty.plan
 printf 'client calc.tars\0\n' >nul.plan
-case_of 'a script with a NUL' 1 'refused nul.plan script 1 0' '' plan nul.plan
+case_of 'a script with a NUL' 1 'refused nul.plan script 3 18' '' plan nul.plan
+tail -n +2 first.plan >>nul.plan
+case_of 'a file name with a NUL' 3 '' 'read fault' plan nul.plan
 printf 'client calc\xff.tars\n' >bytes.plan
 case_of 'a script that is no text' 1 'refused bytes.plan script 1 0' '' plan bytes.plan
 long_script 1048576 >longest.plan
@@ -138,7 +140,7 @@ mkdir calc.tars
 interface_case 'a folder as interface file' 3 '' 'read fault'
 rmdir calc.tars
 : >calc.tars
-interface_case 'an empty interface file' 1 'refused first.plan script 7 0' ''
+interface_case 'an empty interface file' 1 'refused first.plan script 6 17' ''
 printf '%s\0\n' "$calc" >calc.tars
 interface_case 'an interface file with a NUL' 1 "refused calc.tars lex 1 ${#calc}" ''
 printf '\xff%s\n' "$calc" >calc.tars
@@ -156,6 +158,14 @@ case_of 'a check of no file' 3 '' 'read fault' check no.tars
 case_of 'a check of a folder' 3 '' 'read fault' check folder
 case_of 'a check without a file' 2 '' "$usage" check
 case_of 'a check of a script' 1 'refused first.plan lex 1 11' '' check first.plan
+
+# An interface file of the server's own.
+sed 's/^client .*/&\nserver calc.tars/' first.plan >served.plan
+case_of 'one interface file, named for both sides' 0 "$report" '' plan served.plan
+sed 's/^client .*/&\nserver none.tars/' first.plan >served.plan
+case_of 'no interface file of the server' 3 '' 'read fault' plan served.plan
+sed 's/^client .*/&\nserver first.plan/' first.plan >served.plan
+case_of "a server's interface file that is none" 1 'refused first.plan lex 1 11' '' plan served.plan
 
 # Interface files with includes.
 mkdir -p idl
@@ -269,7 +279,7 @@ case_of 'examples/typo.tars' 1 'refused typo.tars parse 5 50' '' check typo.tars
 case_of 'examples/item.txt' 0 "$(shown_for item.txt)" '' encode shop.tars Shop::Item item.txt
 case_of 'examples/shop_next.tars' 0 "$(shown_for shop_next.tars)" '' compat shop.tars shop_next.tars Shop::Item
 case_of 'examples/item.hex' 0 "$(shown_for item.hex)" '' decode shop.tars Shop::Item item.hex
-for plan in first pieces late too_large refused typo; do
+for plan in first pieces late too_large rules versions overload refused typo; do
     shown=$(shown_for "$plan.plan")
     status=0
     case $plan in refused | typo) status=1 ;; esac
@@ -280,7 +290,8 @@ done
 ln -s "$top/tars_tool" linked
 mkdir -p folder/idl
 cp calc.tars folder/idl/.hidden.tars
-sed 's#^client .*#client folder/idl/.hidden.tars#' first.plan >folder/nested.plan
+cp calc.tars folder/idl/served.tars
+sed 's#^client .*#  client  folder/idl/.hidden.tars\nserver folder/idl/served.tars  #' first.plan >folder/nested.plan
 cp first.plan a=b.plan
 cp first.plan program
 program_case ./linked 'a linked script runs the built program' 0 "$report" '' plan first.plan
