@@ -23,6 +23,7 @@ HEADER = """client calc.tars
 interface M::Calc
 object A.B.C@tcp -h 127.0.0.1 -p 9001 -t 3000
 servant add add a b
+queue 10000 3000
 """
 
 
@@ -59,11 +60,11 @@ def build(folder: pathlib.Path) -> pathlib.Path:
     crates = folder / "crates"
     shutil.copytree(TOP / "crates", crates)
     shutil.copy(TOP / "crates.txt", folder)
-    set_in(crates / "session_model/specs/Sessions.antt", "WIDTH = 8\n", f"WIDTH = {WIDTH}\n")
-    set_in(crates / "plan_engine/src/one_line.rt", "WIDTH: usize = 8;", f"WIDTH: usize = {WIDTH};")
+    set_in(crates / "script_session/specs/Sessions.antt", "WIDTH = 8\n", f"WIDTH = {WIDTH}\n")
+    set_in(crates / "run_engine/src/one_line.rt", "WIDTH: usize = 8;", f"WIDTH: usize = {WIDTH};")
     # Its worked rows are of a line of 8 calls.
-    (crates / "plan_course/proofs/Worked.antt").unlink()
-    set_in(crates / "plan_course/proofs/Lib.antt", "pub mod Worked\n", "")
+    (crates / "run_course/proofs/Worked.antt").unlink()
+    set_in(crates / "run_course/proofs/Lib.antt", "pub mod Worked\n", "")
     subprocess.run(["rt", "run"], cwd=crates / "tars_tool", check=False, capture_output=True)
     built = crates / "tars_tool/out/tars_tool"
     if not built.exists():
