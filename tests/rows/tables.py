@@ -1,8 +1,8 @@
 """What the scripts that write tables share: the types of an interface file, and tables of rows.
 
-A table is a file of `crates/value_tables/data` with a row or a comment on each line, and the part of that crate's
-`stdout` with what each of these lines comes to. Nothing here is taken from the crates. Of the interface language
-(docs/IDL.md) only what the rows need is read: one module, no comments, no escapes, no names with `::`.
+A table is a file of a crate's `data` with a row or a comment on each line, and the part of that crate's `stdout` with
+what each of these lines comes to. Nothing here is taken from the crates. Of the interface language (docs/IDL.md) only
+what the rows need is read: one module, no comments, no escapes, no names with `::`.
 """
 
 import itertools
@@ -10,7 +10,7 @@ import pathlib
 import re
 from typing import NamedTuple
 
-CRATE = pathlib.Path(__file__).resolve().parents[2] / "crates" / "value_tables"
+CRATES = pathlib.Path(__file__).resolve().parents[2] / "crates"
 # The least and the greatest number of each type of whole numbers.
 RANGES = {
     "byte": (-(2**7), 2**7 - 1),
@@ -49,6 +49,18 @@ class Member(NamedTuple):
     default: object
 
 
+class Interface(NamedTuple):
+    functions: dict
+
+
+class Function(NamedTuple):
+    """Its members: what is returned is under tag 0, unless it is `void`, and each parameter under its number."""
+
+    ret: object
+    arguments: list
+    replied: list
+
+
 def range_of(kind) -> tuple:
     return RANGES["int"] if isinstance(kind, Enum) else RANGES[kind]
 
@@ -69,29 +81,23 @@ def default_of(kind):
     return 0
 
 
-class Func(NamedTuple):
-    returns: object
-    # Each a name, a type, and whether it comes back.
-    params: list
-
-
 class File:
     """Reads the declarations of an interface file."""
 
     def __init__(self, text: str):
         self.tokens = re.findall(r'"[^"]*"|-?\w+|[{}<>,;=]', text)
-        self.declared, self.interfaces = {}, {}
+        self.declared = {}
         self.take(3)
         while not self.takes("}"):
             word, name, _ = self.take(3)
-            if word == "interface":
-                self.interfaces[name] = self.funcs()
-            else:
-                self.declared[name] = self.enum() if word == "enum" else self.struct()
+            self.declared[name] = {"enum": self.enum, "struct": self.struct, "interface": self.interface}[word]()
             self.take(1)
 
     def last_struct(self) -> Struct:
         return [kind for kind in self.declared.values() if isinstance(kind, Struct)][-1]
+
+    def last_interface(self) -> Interface:
+        return [kind for kind in self.declared.values() if isinstance(kind, Interface)][-1]
 
     def take(self, count: int) -> list:
         taken, self.tokens = self.tokens[:count], self.tokens[count:]
@@ -121,19 +127,25 @@ class File:
             self.take(1)
         return Struct(sorted(members, key=lambda member: member.tag))
 
-    def funcs(self) -> dict:
-        found = {}
+    def interface(self) -> Interface:
+        functions = {}
         while not self.takes("}"):
-            returns = None if self.takes("void") else self.type()
+            ret = None if self.takes("void") else self.type()
             [name] = self.take(1)
-            params = []
-            while not self.takes(";"):
-                out = self.takes("out")
-                kind = self.type()
-                params.append((*self.take(1), kind, out))
-                self.takes(",")
-            found[name] = Func(returns, params)
-        return found
+            functions[name] = self.function(ret)
+        return Interface(functions)
+
+    def function(self, ret) -> Function:
+        arguments, replied = [], [] if ret is None else [Member(0, True, ret, "", None)]
+        number = 0
+        while not self.takes(";"):
+            number += 1
+            members = replied if self.takes("out") else arguments
+            kind = self.type()
+            [name] = self.take(1)
+            members.append(Member(number, True, kind, name, None))
+            self.takes(",")
+        return Function(ret, arguments, replied)
 
     def type(self):
         [word] = self.take(1)
@@ -179,8 +191,9 @@ def file_of(members: str, more: str = "") -> str:
 class Table:
     """Rows and what they come to, in groups under a comment each."""
 
-    def __init__(self, name: str, title: list):
+    def __init__(self, name: str, title: list, crate: str = "value_tables"):
         self.name = name
+        self.crate = CRATES / crate
         self.rows = [f"# {line}" for line in title]
         self.lines = list(self.rows)
 
@@ -192,8 +205,8 @@ class Table:
 
     def write(self) -> None:
         """Writes the rows, and puts their lines into `stdout` in place of those that the table had there."""
-        rows, stdout = CRATE / "data" / self.name, CRATE / "stdout"
-        lines = stdout.read_text(encoding="utf-8").split("\n")[:-1]
+        rows, stdout = self.crate / "data" / self.name, self.crate / "stdout"
+        lines = stdout.read_text(encoding="utf-8").split("\n")[:-1] if stdout.exists() else []
         old = rows.read_text(encoding="utf-8").split("\n")[:-1] if rows.exists() else []
         start = lines.index(old[0]) if old else len(lines)
         lines[start : start + len(old)] = self.lines

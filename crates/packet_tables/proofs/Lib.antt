@@ -1,0 +1,3 @@
+mod CounterSends
+mod Counts
+mod FuncRules
