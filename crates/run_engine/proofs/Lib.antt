@@ -1,7 +1,5 @@
 pub mod Lists
 pub mod Channels
-pub mod Decoded
-pub mod Functions
 pub mod Servants
 pub mod Nodes
 pub mod OneLines

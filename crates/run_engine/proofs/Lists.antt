@@ -1,9 +1,8 @@
 -- Facts on lists.
-use Rattle.std.specs.List.{All, cons_option}
+use Rattle.std.specs.List.{cons_option}
 use Rattle.std.specs.Option.{option_to_list}
-use Rattle.std.proofs.lemmas.List.{drop_all, drop_more, take-append-drop}
-use Rattle.std.proofs.lemmas.List.Elements.{All-head, All-tail}
-use Rattle.std.proofs.Common.{◌≤◌, ◌+◌, ◌-◌, ◌++◌, ◌∙◌, take, drop, drop_of_length-le, append-nil, append_assoc, add-one, drop-cons, ◌≡◌, ◌<◌, ℕ, zero, suc, List, [], ◌∷◌, length, Option, Some, None, refl, ap, sym, arith}
+use Rattle.std.proofs.lemmas.List.{drop_all}
+use Rattle.std.proofs.Common.{◌≤◌, ◌+◌, ◌++◌, ◌∙◌, drop, append-nil, append_assoc, add-one, drop-cons, ◌≡◌, ◌<◌, ℕ, zero, suc, List, [], ◌∷◌, length, Option, Some, None, refl, ap, sym, arith}
 use Rattle.std.specs.Prelude.{filter_map, slice_get, slice_index_or}
 use Rattle.run_course.proofs.Lists.{none_some, some_same}
 
@@ -17,11 +16,6 @@ pub found_at : {A : Type 0} (xs : List A) (k : ℕ) (x : A) → k < length xs �
 found_at [] k x within e = absurd (omega arith)
 found_at (y ∷ xs) zero x within e = ap (λ z. Some z) (sym e)
 found_at (y ∷ xs) (suc k) x within e = found_at xs k x (omega arith) e
-
-pub found_or : {A : Type 0} (xs : List A) (k : ℕ) (d : A) → k < length xs → slice_get xs k ≡ Some (slice_index_or xs k d)
-found_or [] k d within = absurd (omega arith)
-found_or (x ∷ xs) zero d within = refl
-found_or (x ∷ xs) (suc k) d within = found_or xs k d (omega arith)
 
 pub at_found : {A : Type 0} (xs : List A) (k : ℕ) (x d : A) → slice_get xs k ≡ Some x → slice_index_or xs k d ≡ x
 at_found [] k x d e = absurd (none_some x e)
@@ -49,22 +43,3 @@ one_more f done new all xs k x within here so_far is =
 
 pub none_left : {X Y : Type 0} (f : X → Option Y) (done all : List Y) (xs : List X) (k : ℕ) → length xs ≤ k → done ++ filter_map f (drop k xs) ≡ all → done ≡ all
 none_left f done all xs k last so_far = sym (append-nil done) ∙ ap (λ left. done ++ filter_map f left) (sym (drop_all k xs last)) ∙ so_far
-
--- ---- the last of those that are left
-
-last_apart : {A : Type 0} (rest : List A) (x : A) → 1 ≤ length rest → x ≡ slice_index_or rest (length rest - 1) x → rest ≡ take (length rest - 1) rest ++ x ∷ []
-last_apart rest x some last =
-    let at : ℕ = length rest - 1 in
-    let below : at < length rest = omega arith in
-    let none : drop (at + 1) rest ≡ [] = drop_of_length-le rest (omega arith) in
-    sym (take-append-drop at rest) ∙ ap (λ end. take at rest ++ end) (drop_more rest at x below ∙ ap (λ first. first ∷ drop (at + 1) rest) (sym last) ∙ ap (λ end. x ∷ end) none)
-
--- it goes to those that are done
-pub last_done : {A : Type 0} (all rest done : List A) (x : A) → 1 ≤ length rest → x ≡ slice_index_or rest (length rest - 1) x → all ≡ rest ++ done
-    → all ≡ take (length rest - 1) rest ++ x ∷ done
-last_done all rest done x some last same =
-    same ∙ ap (λ xs. xs ++ done) (last_apart rest x some last) ∙ append_assoc (take (length rest - 1) rest) (x ∷ []) done
-
-pub all_middle : {A : Type 0} (P : A → Type 0) (xs ys : List A) (x : A) → All P (xs ++ x ∷ ys) → P x
-all_middle P [] ys x all = All-head P x ys all
-all_middle P (y ∷ xs) ys x all = all_middle P xs ys x (All-tail P y (xs ++ x ∷ ys) all)

@@ -7,7 +7,6 @@ mod caller;
 mod channel;
 mod claims;
 mod fate;
-mod func_members;
 mod link_ends;
 mod node;
 mod one_line;
@@ -15,8 +14,6 @@ mod one_node;
 mod plan;
 mod reporting;
 mod run;
-mod service;
 mod serving;
-mod session_servant;
 
 pub use run::run_plan;

@@ -9,9 +9,9 @@ use crate::caller::take_all_in;
 use crate::channel::Channel;
 use crate::claims::Claims;
 use crate::node::NodeEnd;
-use crate::service::Service;
 use crate::serving::{put, serve_all};
 use script_session::{GotRow, LinkLog, SentRow};
+use session_service::Service;
 use std::alloc::{AllocError, Global};
 use tars_model::{Bytes8, List};
 

@@ -8,11 +8,10 @@ ghost use Rattle.script_session.specs.Sessions.{replies};
 ghost use Rattle.run_course.specs.Nodes.{Node, answer_of, fresh, offers, works};
 ghost use Rattle.run_engine.specs.Tracks.{IsServantOf, IsWritable, MayBeAnswered, TracksNode, TracksStep};
 
-use crate::service::Service;
-use crate::session_servant::servant_of;
 use adapter_queue::{OneQueue, Overload, Taken};
 use rpc_packet::{Packets, Request, Response, WriteRefusal};
 use servant_core::{TableServant, answer, overloaded, timed_out};
+use session_service::{Service, servant_of};
 use std::alloc::{AllocError, Global};
 use tars_model::Bytes8;
 

@@ -12,8 +12,8 @@ use crate::call_note::CallNote;
 use crate::claims::Claims;
 use crate::link_ends::LinkEnds;
 use crate::one_node::{NODE, PICKED};
-use crate::service::{Service, node_of as one_node_of};
 use script_session::{CallSpec, Event, PickNote, Refusal, SentRow};
+use session_service::{Service, node_of as one_node_of};
 use std::alloc::{AllocError, Global};
 
 /// A run of a session so far.

@@ -6,10 +6,10 @@ ghost use Rattle.run_course.specs.Planned.{planned};
 
 use crate::one_line::OneLine;
 use crate::plan::Plan;
-use crate::service::Service;
 use run_answers::{answered_by_servant, nothing_left};
 use run_course::{legal_report, one_node_report};
 use script_session::{Loaded, Report};
+use session_service::Service;
 use std::alloc::{AllocError, Global};
 
 /// The report of a session (docs/SCRIPTS.md, "Events").

@@ -11,8 +11,8 @@ ghost use Rattle.run_engine.specs.Tracks.{Reads, TracksSide};
 
 use crate::channel::Channel;
 use crate::node::NodeEnd;
-use crate::service::Service;
 use rpc_packet::{Packets, Request};
+use session_service::Service;
 use std::alloc::{AllocError, Global};
 use tars_decode::Refuse;
 use tars_frames::Packet;

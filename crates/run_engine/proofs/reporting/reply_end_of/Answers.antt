@@ -3,7 +3,7 @@ use Rattle.std.specs.Prelude.{Result, Ok, Err}
 use Rattle.std.proofs.lemmas.Result.{IfOk-weaker}
 use Rattle.tars_decode.specs.declared.refuse.Refuse.{Refuse}
 use Rattle.tars_decode.specs.declared.refuse.Refuse.TheVariants as refuse
-use Rattle.run_engine.specs.Outcomes.{IsRead}
+use Rattle.session_service.specs.Outcomes.{IsRead}
 use Rattle.std.proofs.lemmas.Int.{ints, to_z-of_z}
 use Rattle.std.proofs.lemmas.Bool.{ne_eqb}
 use Rattle.tars_model.specs.Ranges.{IsInt}

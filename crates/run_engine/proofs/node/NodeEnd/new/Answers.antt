@@ -2,7 +2,7 @@ use Rattle.std.proofs.Common.{◌∙◌, [], ap}
 use Rattle.adapter_queue.specs.Queues.{Queue}
 use Rattle.rpc_packet.specs.declared.request.Request.{Request}
 use Rattle.script_session.specs.declared.session.Session.{Session}
-use Rattle.run_engine.specs.Made.{servant_of}
+use Rattle.session_service.specs.Made.{servant_of}
 use Rattle.run_engine.proofs.Nodes.{fresh_node}
 use Rattle.run_engine.proofs.Servants.{made_servant}
 use Rattle.run_engine.proofs.node.NodeEnd.new.Goals as goal

@@ -5,7 +5,7 @@ use Rattle.tars_model.specs.declared.func_desc.FuncDesc.{FuncDesc}
 use Rattle.servant_core.specs.Tables.{Table}
 use Rattle.script_session.specs.Sessions.{rules_of}
 use Rattle.script_session.specs.declared.session.Session.{Session}
-use Rattle.run_engine.specs.declared.func_members.FuncMembers.{FuncMembers}
+use Rattle.session_service.specs.declared.func_members.FuncMembers.{FuncMembers}
 
 -- the members of a function's arguments and of its reply
 abbrev pub members_of : FuncDesc → FuncMembers

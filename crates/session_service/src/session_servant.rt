@@ -2,14 +2,14 @@
 
 ghost use Rattle.std.specs.Prelude.{◌≡◌, IfOk};
 ghost use Rattle.script_session.specs.Judged.{IsJudged};
-ghost use Rattle.run_engine.specs.Made.{servant_of as servant_is};
+ghost use Rattle.session_service.specs.Made.{servant_of as servant_is};
 
 use script_session::Session;
 use servant_core::TableServant;
 use std::alloc::{AllocError, Global};
 
 /// The servant that replies by the rules of a session, in the server's version of the interface.
-pub(crate) fn servant_of(alloc: Global, session: &Session) -> Result<TableServant, AllocError>
+pub fn servant_of(alloc: Global, session: &Session) -> Result<TableServant, AllocError>
     requires { IsJudged session.now }
     ensures { IfOk result (λ servant. servant ≡ servant_is session.now) }
 {

@@ -1,7 +1,7 @@
 ghost use Rattle.std.specs.Prelude.{◌≡◌, ◌≤◌, length, All, IfOk};
 ghost use Rattle.tars_model.specs.Members.{MAX_PARAMS};
 ghost use Rattle.tars_model.specs.declared.func_desc.FuncDesc.{FuncDesc as AFunc};
-ghost use Rattle.run_engine.specs.Made.{members_of, all_members};
+ghost use Rattle.session_service.specs.Made.{members_of, all_members};
 
 use std::alloc::{AllocError, Global};
 use tars_model::{FuncDesc, List, Member, args_of, reply_of};

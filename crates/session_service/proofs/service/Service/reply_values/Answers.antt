@@ -2,10 +2,10 @@ use Rattle.std.proofs.Common.{◌<◌, ◌∙◌, ap, subst}
 use Rattle.std.proofs.lemmas.List.Elements.{All-from_get_or}
 use Rattle.rpc_packet.specs.Bodies.{decoded}
 use Rattle.script_session.specs.declared.session.Session.{Session}
-use Rattle.run_engine.specs.Outcomes.{IsRead}
-use Rattle.run_engine.specs.declared.func_members.FuncMembers.{FuncMembers}
-use Rattle.run_engine.proofs.Decoded.{decoded_is}
-use Rattle.run_engine.proofs.service.Service.reply_values.Goals as goal
+use Rattle.session_service.specs.Outcomes.{IsRead}
+use Rattle.session_service.specs.declared.func_members.FuncMembers.{FuncMembers}
+use Rattle.session_service.proofs.Decoded.{decoded_is}
+use Rattle.session_service.proofs.service.Service.reply_values.Goals as goal
 
 pub returns : goal.returns
 returns c =

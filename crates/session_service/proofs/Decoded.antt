@@ -18,7 +18,7 @@ use Rattle.tars_decode.specs.declared.refuse.Refuse.{Refuse}
 use Rattle.tars_decode.specs.declared.refuse.Refuse.TheVariants as refuse
 use Rattle.wire_reading.specs.Readings.{AreBytes, Reading, body, no_body}
 use Rattle.rpc_packet.specs.Bodies.{reading, refusal_told, decoded_in, decoded}
-use Rattle.run_engine.specs.Outcomes.{IsRead}
+use Rattle.session_service.specs.Outcomes.{IsRead}
 
 module _ (d : Declared) (members : List Member) (bytes : List ℕ) (small : AreBytes bytes) where
   read_as : (read : Read (List Value)) → IsBody bytes → ((fields : WireFields) → Spelled MAX_DEPTH bytes fields → reads d members fields ≡ read)

@@ -3,10 +3,10 @@ use Rattle.std.proofs.lemmas.Grind.{common_steps}
 use Rattle.tars_model.specs.Schemas.{IsSchema}
 use Rattle.tars_decode.specs.Decoding.{MembersFit}
 use Rattle.script_session.specs.Sessions.{func_of}
-use Rattle.run_engine.specs.Made.{members_of}
-use Rattle.run_engine.specs.declared.func_members.FuncMembers.{FuncMembers}
-use Rattle.run_engine.proofs.Functions.{call_arguments_fit, call_reply_fit}
-use Rattle.run_engine.proofs.service.Service.members.Goals as goal
+use Rattle.session_service.specs.Made.{members_of}
+use Rattle.session_service.specs.declared.func_members.FuncMembers.{FuncMembers}
+use Rattle.session_service.proofs.Functions.{call_arguments_fit, call_reply_fit}
+use Rattle.session_service.proofs.service.Service.members.Goals as goal
 
 pub returns-clause-arguments : goal.returns-clause-arguments
 returns-clause-arguments c =

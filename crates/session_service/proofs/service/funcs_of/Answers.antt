@@ -3,8 +3,8 @@ use Rattle.std.specs.List.{All}
 use Rattle.tars_model.specs.Members.{MAX_PARAMS}
 use Rattle.tars_model.specs.declared.func_desc.FuncDesc.{FuncDesc}
 use Rattle.tars_model.specs.declared.interface_desc.InterfaceDesc.{InterfaceDesc}
-use Rattle.run_engine.proofs.Functions.{interface_over}
-use Rattle.run_engine.proofs.service.funcs_of.Goals as goal
+use Rattle.session_service.proofs.Functions.{interface_over}
+use Rattle.session_service.proofs.service.funcs_of.Goals as goal
 
 abbrev AllFew : List FuncDesc → Type 0
 AllFew funcs = All (λ (func : FuncDesc). length func.params ≤ MAX_PARAMS) funcs

@@ -10,7 +10,7 @@ use Rattle.servant_core.proofs.FuncsAt.{arguments_at_fit, reply_at_fit}
 use Rattle.script_session.specs.Judged.{IsJudged}
 use Rattle.script_session.specs.Sessions.{client_funcs, func_of}
 use Rattle.script_session.specs.declared.session.Session.{Session}
-use Rattle.run_engine.proofs.Lists.{found_or}
+use Rattle.session_service.proofs.Lists.{found_or}
 
 pub interface_over : (s : Session) → IsJudged s → IsSchema s.client → (i : InterfaceDesc) → i ≡ slice_index_or s.client.interfaces s.client_interface i
     → IsInterfaceOver (length s.client.enums) (length s.client.structs) i

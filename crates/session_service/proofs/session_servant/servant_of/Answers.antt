@@ -1,7 +1,7 @@
 use Rattle.std.proofs.Common.{◌∷◌}
-use Rattle.run_engine.proofs.Lists.{last_done}
-use Rattle.run_engine.proofs.Servants.{last_fits, last_func, one_set}
-use Rattle.run_engine.proofs.session_servant.servant_of.Goals as goal
+use Rattle.session_service.proofs.Lists.{last_done}
+use Rattle.session_service.proofs.Rules.{last_fits, last_func, one_set}
+use Rattle.session_service.proofs.session_servant.servant_of.Goals as goal
 
 pub set-requires-clause-function : goal.set-requires-clause-function
 set-requires-clause-function c =

@@ -8,8 +8,8 @@ ghost use Rattle.rpc_packet.specs.Packets.{request_frame as frame_of_request};
 ghost use Rattle.run_course.specs.Planned.{reply_values as values_of_reply};
 ghost use Rattle.script_session.specs.Sessions.{client_funcs, func_of as func_is, node_of as node_is, request_of};
 ghost use Rattle.script_session.specs.Judged.{IDS, IsCall, IsJudged};
-ghost use Rattle.run_engine.specs.Made.{members_of};
-ghost use Rattle.run_engine.specs.Outcomes.{IsRead};
+ghost use Rattle.session_service.specs.Made.{members_of};
+ghost use Rattle.session_service.specs.Outcomes.{IsRead};
 
 use crate::func_members::{FuncMembers, members_of_all};
 use bytes::BytesMut;
@@ -24,7 +24,7 @@ use tars_model::{Bytes8, FuncDesc, List, Member, Schema, Value};
 /// A session with all that is made once for its calls: the members of packets, and of each function's arguments and reply in the
 /// caller's version.
 #[derive(Drop)]
-pub(crate) struct Service<'a> {
+pub struct Service<'a> {
     loaded: &'a Loaded,
     packets: Packets,
     /// By the functions' numbers.
@@ -36,7 +36,7 @@ impl<'a> Model for Service<'a> {
     ghost use Rattle.std.specs.Prelude.{◌≡◌};
     ghost use Rattle.script_session.specs.Sessions.{client_funcs};
     ghost use Rattle.script_session.specs.declared.session.Session.{Session};
-    ghost use Rattle.run_engine.specs.Made.{all_members};
+    ghost use Rattle.session_service.specs.Made.{all_members};
     ghost use Rattle.tars_model.specs.contracts.ty.Ty as ty;
     ghost use Rattle.tars_model.specs.contracts.value.Value as value;
 
@@ -63,7 +63,7 @@ fn funcs_of(session: &Session) -> &[FuncDesc]
 }
 
 /// The one node of the object.
-pub(crate) fn node_of(session: &Session) -> &Endpoint
+pub fn node_of(session: &Session) -> &Endpoint
     requires { 1 ≤ length session.now.object.nodes }
     ensures { result.now ≡ node_is session.now }
 {

@@ -2,7 +2,7 @@ use Rattle.std.proofs.Common.{sym, subst}
 use Rattle.rpc_packet.specs.Outcomes.{IsSendable}
 use Rattle.script_session.specs.Sessions.{request_of}
 use Rattle.rpc_packet.proofs.CallerLemmas.{no_texts, within_sendable}
-use Rattle.run_engine.proofs.service.Service.request_frame.Goals as goal
+use Rattle.session_service.proofs.service.Service.request_frame.Goals as goal
 
 pub write_request-requires : goal.write_request-requires
 write_request-requires c = record {

@@ -1,7 +1,7 @@
 use Rattle.std.proofs.Common.{◌≡◌, ◌++◌, List, length}
 use Rattle.script_session.specs.Sessions.{rule_table, server_funcs}
 use Rattle.script_session.specs.declared.session.FuncRule.{FuncRule}
-use Rattle.run_engine.proofs.session_servant.servant_of.Given as goal
+use Rattle.session_service.proofs.session_servant.servant_of.Given as goal
 
 -- the servant has the rules after those that are left
 abbrev pub invariant-loop-rest : goal.invariant-loop-rest
